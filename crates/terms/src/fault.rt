@@ -1,0 +1,30 @@
+// A refusal with the place of the offence in the text and the layer that found it.
+ghost use Rattle.std.specs.declared.option.Option.the-variants.{Some};
+ghost use Rattle.terms.specs.Spoken.{spoken};
+use crate::layer::Layer;
+use crate::refusal::Refusal;
+use std::fmt;
+use crate::layer::LayerDebug;
+use crate::layer::LayerPartialEq;
+use crate::refusal::RefusalDebug;
+use crate::refusal::RefusalPartialEq;
+
+#[derive(Clone, Copy, Debug, PartialEq, Eq)]
+pub struct Fault {
+    pub refusal: Refusal,
+    pub place: usize,
+    pub layer: Layer,
+}
+
+// Number, place and layer, and then the reason in plain words.
+pub impl fmt::Display for Fault as FaultDisplay {
+    ghost shown = { λ f. Some (spoken f) };
+
+    fn fmt<W: fmt::Write>(&self, f: &mut fmt::Formatter<W>) -> fmt::Result {
+        let number = self.refusal.number();
+        let place = self.place;
+        let layer = self.layer.name();
+        let reason = self.refusal.reason();
+        write!(f, "{number} {place} {layer} {reason}")
+    }
+}
