@@ -4,6 +4,7 @@ use mathlib.Core.List.{List, [], _∷_}
 use Prim.Native.Nat.{ℕ, suc, _+_}
 use lib.Chars.{codes}
 use lib.Dec.{eqb, leb}
+use lib.ListN.{length}
 
 -- from one byte to another, both included
 abbrev pub within : ℕ → ℕ → ℕ → Bool
@@ -33,6 +34,15 @@ hexDigit b = digit b || (within 65 70 b || within 97 102 b)
 
 abbrev pub nameByte : ℕ → Bool
 nameByte b = letter b || (digit b || oneOf (codes ".-_") b)
+
+-- every byte of a text passes
+abbrev pub every : (ℕ → Bool) → List ℕ → Bool
+every test [] = true
+every test (b ∷ bs) = test b && every test bs
+
+-- 1 to `most` name bytes
+abbrev pub isName : ℕ → List ℕ → Bool
+isName most text = leb 1 (length text) && (leb (length text) most && every nameByte text)
 
 -- one number for the four: a bit for each set that the byte is in
 abbrev pub classes : ℕ → ℕ

@@ -3,6 +3,7 @@ pub mod classes;
 pub mod copying;
 pub mod fault;
 pub mod layer;
+pub mod names;
 pub mod refusal;
 pub mod text;
 pub mod time;

@@ -1,0 +1,5 @@
+pub mod Cuts
+pub mod Splits
+pub mod Views
+pub mod Legal
+pub mod Allowed
