@@ -1,0 +1,4 @@
+pub mod Meaning
+pub mod Limits
+pub mod Questions
+pub mod Finding
