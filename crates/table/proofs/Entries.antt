@@ -1,14 +1,16 @@
 -- The entries of the contents, one by one. Assumes nothing.
-use mathlib.Core.Path.{_≡_, refl, sym, ap, _∙_}
-use mathlib.Core.List.{List, [], _∷_}
+use mathlib.Core.Path.{_≡_, refl, sym, ap, subst, _∙_}
+use mathlib.Core.List.{List, [], _∷_, _++_}
 use Prim.Native.Nat.{ℕ, zero, suc, _+_, _*_, _<_, _≤_}
 use native.Mathlib.Nat.{le-of-suc-le-suc}
 use native.Mathlib.Omega.{arith}
-use lib.ListN.{length, getD, drop}
-use Rattle.std.proofs.shelf.Lists.{drop-more, drop-drop, drop-all, getD-drop}
+use lib.ListN.{length, getD, take, drop}
+use Rattle.std.specs.shelf.Lists.{All}
+use Rattle.std.proofs.shelf.Elements.{all-drop}
+use Rattle.std.proofs.shelf.Lists.{drop-more, drop-drop, drop-all, getD-drop, getD-take, length-drop, length-take, take-more}
 use Rattle.table.specs.declared.kind.Kind.{Kind}
 use Rattle.table.specs.declared.entry.Entry.{Entry}
-use Rattle.table.specs.Contents.{pair, kindOf, countOf, spot, entryOf, entriesOf, contents}
+use Rattle.table.specs.Contents.{pair, kindOf, countOf, spot, entryOf, entriesOf, contents, Within}
 
 pub length-entries : (n : ℕ) (bytes : List ℕ) → length (entriesOf n bytes) ≡ n
 length-entries zero bytes = refl
@@ -53,3 +55,25 @@ module _ (file : List ℕ) (i : ℕ) where
 
   pub no-more : countOf file ≤ i → drop i (contents file) ≡ []
   no-more h = drop-all i (contents file) (rw (length-contents file) h)
+
+-- an entry's body lies in the file, where each does
+pub body-within : (file : List ℕ) (i : ℕ) (e : Entry) (rest : List Entry) → drop i (contents file) ≡ e ∷ rest → Within file → e .place + e .size ≤ length file
+body-within file i e rest step within =
+    subst (All (λ (x : Entry). x .place + x .size ≤ length file)) step (all-drop (λ (x : Entry). x .place + x .size ≤ length file) i (contents file) within) .0
+
+module _ (es rest : List Entry) (i : ℕ) (e : Entry) (step : drop i es ≡ e ∷ rest) where
+  there : i < length es
+  there = omega (arith, ap length step, length-drop i es)
+
+  is-at : getD es i e ≡ e
+  is-at = ap (λ (n : ℕ). getD es n e) (omega arith) ∙ sym (getD-drop i es 0 e) ∙ ap (λ (l : List Entry). getD l 0 e) step
+
+  -- one entry more is behind us
+  pub taken-more : take (i + 1) es ≡ take i es ++ e ∷ []
+  taken-more = take-more es i e there ∙ ap (λ (x : Entry). take i es ++ x ∷ []) is-at
+
+  -- the entries up to `end`, from i on
+  pub front-step : (end : ℕ) → i < end → drop i (take end es) ≡ e ∷ drop (i + 1) (take end es)
+  front-step end h =
+      drop-more (take end es) i e (omega (arith, length-take end es, there))
+      ∙ ap (λ (x : Entry). x ∷ drop (i + 1) (take end es)) (getD-take end es i e h ∙ is-at)

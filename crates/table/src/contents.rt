@@ -3,7 +3,7 @@ ghost use mathlib.Core.Path.{_≡_};
 ghost use mathlib.Core.List.{_∷_};
 ghost use Prim.Native.Nat.{_+_, _*_, _<_, _≤_};
 ghost use lib.ListN.{length, drop};
-ghost use Rattle.table.specs.Contents.{pair, kindOf, countOf, spot, contents, bodyOf};
+ghost use Rattle.table.specs.Contents.{pair, kindOf, countOf, spot, contents, Within, bodyOf, isId, isMember, isUnknown};
 use crate::entry::Entry;
 use crate::kind::Kind;
 
@@ -26,6 +26,26 @@ fn kind_of(byte: u8) -> Kind
         1 => Kind::Id,
         2 => Kind::Member,
         _ => Kind::Unknown,
+    }
+}
+
+impl Kind {
+    pub(crate) fn is_id(self) -> bool
+        ensures { λ r. ⌜ r ≡ isId self ⌝ }
+    {
+        matches!(self, Kind::Id)
+    }
+
+    pub(crate) fn is_member(self) -> bool
+        ensures { λ r. ⌜ r ≡ isMember self ⌝ }
+    {
+        matches!(self, Kind::Member)
+    }
+
+    pub(crate) fn is_unknown(self) -> bool
+        ensures { λ r. ⌜ r ≡ isUnknown self ⌝ }
+    {
+        matches!(self, Kind::Unknown)
     }
 }
 
@@ -53,6 +73,7 @@ pub(crate) fn entry_at(file: &[u8], i: usize) -> Entry
     ensures step { λ r. ⌜ drop i (contents (now (file .entry))) ≡ r ∷ drop (i + 1) (contents (now (file .entry))) ⌝ }
     ensures place { λ r. ⌜ r .place < 65536 ⌝ }
     ensures size { λ r. ⌜ r .size < 65536 ⌝ }
+    ensures body { λ r. ⌜ (Within (now (file .entry)) → r .place + r .size ≤ length (now (file .entry))) ⌝ }
 {
     let at = CONTENTS + ENTRY_BYTES * i;
     Entry {
