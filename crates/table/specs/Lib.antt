@@ -2,3 +2,4 @@ pub mod Contents
 pub mod Reading
 pub mod Offences
 pub mod Checks
+pub mod Tables

@@ -3,3 +3,4 @@ pub mod Splits
 pub mod Views
 pub mod Legal
 pub mod Allowed
+pub mod Grammar

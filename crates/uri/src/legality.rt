@@ -1,8 +1,10 @@
 // Which URIs are legal.
 ghost use mathlib.Core.Path.{_≡_};
 ghost use Rattle.std.specs.Options.{mapped};
+ghost use Rattle.std.specs.Orderings.{Decides};
 ghost use Rattle.uri.specs.Legal.{isScheme, isPort, isAuthority, escaped, ifPresent, present, isQuery, legalParts, legal};
 ghost use Rattle.uri.specs.Allowed.{allowed};
+ghost use Rattle.uri.specs.Grammar.{Uri};
 ghost use Rattle.uri.specs.Views.{texts};
 use crate::component::Component;
 use crate::cutting::cut;
@@ -114,7 +116,8 @@ fn are_legal(parts: Parts) -> bool
 
 // Whether `uri` is a legal URI.
 pub fn is_legal(uri: &[u8]) -> bool
-    ensures { λ r. ⌜ r ≡ legal (now (uri .entry)) ⌝ }
+    ensures value { λ r. ⌜ r ≡ legal (now (uri .entry)) ⌝ }
+    ensures grammar { λ r. ⌜ Decides r (Uri (now (uri .entry))) ⌝ }
 {
     uri.len() <= URI_BYTES && are_legal(split(uri))
 }
