@@ -12,11 +12,12 @@ use Rattle.std.specs.declared.option.Option.the-variants.{Some, None}
 use Rattle.std.specs.declared.result.Result.{Result}
 use Rattle.std.specs.declared.result.Result.the-variants.{Ok, Err}
 use Rattle.std.specs.Vec.{made}
-use Rattle.terms.specs.Faults.{Told}
+use Rattle.terms.specs.declared.fault.Fault.{Fault}
+use Rattle.terms.specs.Faults.{Told, outcome}
 use Rattle.table.specs.declared.entry.Entry.{Entry}
 use Rattle.table.specs.Contents.{spot}
 use Rattle.table.specs.Offences.{overlong}
-use Rattle.table.specs.Checks.{Rule, verdict, and-then, judged}
+use Rattle.table.specs.Checks.{Rule, verdict, done, and-then, judged}
 
 -- a rule that is kept
 pub skip : (v next : Result (Unit {0}) Told) → Ok tt ≡ v → and-then v next ≡ next
@@ -39,6 +40,13 @@ judged-append (x ∷ xs) ys =
 pub made-any : {X Y P : Type 0} (r : Result X Y) → P → made r (λ _. P)
 made-any (Ok x) p = p
 made-any (Err y) p = tt
+
+pub stop : (v next : Result (Unit {0}) Told) (t : Told) → Err t ≡ v → Err t ≡ and-then v next
+stop v next t e = ap (λ (w : Result (Unit {0}) Told). and-then w next) e
+
+pub done-is : (r : Result (Unit {0}) Fault) → outcome r ≡ done r
+done-is (Ok x) = refl
+done-is (Err f) = refl
 
 -- what a kept rule says
 pub kept : (n : ℕ) (o : Option ℕ) → Ok tt ≡ verdict n o → o ≡ None

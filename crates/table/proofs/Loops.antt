@@ -21,7 +21,7 @@ use Rattle.pathways.specs.Limits.{legalId}
 use Rattle.table.specs.declared.kind.Kind.{Kind}
 use Rattle.table.specs.declared.entry.Entry.{Entry}
 use Rattle.table.specs.Contents.{headed, spot, bodyOf, isId, isMember, isUnknown}
-use Rattle.table.specs.Reading.{pathwayAt, pathwaysIn}
+use Rattle.table.specs.Reading.{membersIn, pathwayAt, pathwaysIn}
 use Rattle.table.specs.Offences.{badHeader, misplaced, overlong, endOf, unknownKind, follows, disordered, outOfOrder, badId, hasId, repeated, badUri, memberFirst, excess, idsNow, membersNow, overrun}
 use Rattle.table.specs.Checks.{verdict}
 
@@ -144,3 +144,9 @@ passed n o h = ap (verdict n) (sym h)
 pub same-body : (xs ys zs : List ℕ) (r : Bool) → Decides r (xs ≡ ys) → xs ≡ zs → r ≡ sameBytes zs ys
 same-body xs ys zs r h e =
     same-from-decides r (sameBytes zs ys) (subst (λ (l : List ℕ). Decides r (l ≡ ys)) e h) (sameBytes-decides zs ys)
+
+-- an entry that is no member ends the members
+pub members-end : (file : List ℕ) (es rest : List Entry) (e : Entry) → es ≡ e ∷ rest → isMember (e .kind) ≡ false → length (membersIn file es) ≡ 0
+members-end file es rest e step t =
+    ap (λ (l : List Entry). length (membersIn file l)) step
+    ∙ ap length (cond-false (isMember (e .kind)) (bodyOf file e ∷ membersIn file rest) [] t)

@@ -25,6 +25,10 @@ example =
     ∷ 2 ∷ 0 ∷ 41 ∷ 0 ∷ 18
     ∷ (codes "https://s.example/a" ++ (codes "a" ++ codes "https://c.example/"))
 
--- what is made of a file: its own meaning where the check passes, else the example's
+-- the file that is opened: the given one where it passes the check, else the example
+abbrev pub opened : List ℕ → List ℕ
+opened file = cond (isOk (checked file)) file example
+
+-- what is made of a file
 abbrev pub described : List ℕ → Meaning
-described file = cond (isOk (checked file)) (meaningOf file) (meaningOf example)
+described file = meaningOf (opened file)

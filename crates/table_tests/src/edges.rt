@@ -42,17 +42,10 @@ fn room(
     lines: &mut String,
 ) -> Result<(), AllocError> {
     let text = answer(heap, table, question)?;
-    let length = text.len();
     let exact = fills(heap, table, question, text.as_bytes(), 0)?;
     let wide = fills(heap, table, question, text.as_bytes(), 2)?;
-    let short = length == 0
-        || refuses(
-            heap,
-            table,
-            question,
-            length.saturating_sub(1),
-            BUFFER_SHORT,
-        )?;
+    let less = text.len().saturating_sub(1);
+    let short = refuses(heap, table, question, less, BUFFER_SHORT)?;
     if exact && wide && short {
         return Ok(());
     }

@@ -45,15 +45,19 @@ fn description(heap: Global, table: &ServiceTable) -> Result<String, AllocError>
     let steering = answer(heap, table, Question::Steering)?;
     let mut lines = format!(heap, "{dialect} {steering}")?;
     for number in 0..count_of(table) {
-        let id = answer(heap, table, Question::Id(number))?;
-        let members = members_of(table, number);
-        let pathway = format!(heap, " {id}:{members}")?;
-        lines.push_str(pathway.as_str())?;
+        let told = pathway(heap, table, number)?;
+        lines.push_str(told.as_str())?;
     }
     lines.push('\n')?;
     let listed = members(heap, table)?;
     lines.push_str(listed.as_str())?;
     Ok(lines)
+}
+
+fn pathway(heap: Global, table: &ServiceTable, number: usize) -> Result<String, AllocError> {
+    let id = answer(heap, table, Question::Id(number))?;
+    let members = members_of(table, number);
+    format!(heap, " {id}:{members}")
 }
 
 fn members(heap: Global, table: &ServiceTable) -> Result<String, AllocError> {
@@ -73,9 +77,10 @@ fn list(heap: Global, table: &ServiceTable) -> Result<String, AllocError> {
     let mut lines = String::new(heap);
     for number in 0..count_of(table) {
         for member in 0..members_of(table, number) {
+            lines.push_str("  ")?;
             let uri = answer(heap, table, Question::Member(number, member))?;
-            let line = format!(heap, "  {uri}\n")?;
-            lines.push_str(line.as_str())?;
+            lines.push_str(uri.as_str())?;
+            lines.push('\n')?;
         }
     }
     Ok(lines)

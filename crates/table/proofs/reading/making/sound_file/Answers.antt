@@ -1,0 +1,21 @@
+use mathlib.Core.Path.{refl, sym, ap, _∙_}
+use Rattle.std.specs.Results.{isOk}
+use Rattle.std.proofs.shelf.Tests.{cond-true, cond-false}
+use Rattle.table.specs.Checks.{checked}
+use Rattle.table.specs.Tables.{example}
+use Rattle.table.proofs.reading.making.sound_file.Needs as need
+
+pub returns-in-Ok : need.returns-in-Ok
+returns-in-Ok c =
+    record {
+      is = sym (cond-true _ (c .args .file .now) example (sym (ap isOk (c .in-Ok .ensures tt))));
+      sound = sym (ap isOk (c .in-Ok .ensures tt));
+    }
+
+-- that the example passes the check is computed
+pub returns-in-Err : need.returns-in-Err
+returns-in-Err c =
+    record {
+      is = sym (cond-false _ (c .args .file .now) example (sym (ap isOk (c .in-Err .ensures tt))));
+      sound = refl;
+    }
