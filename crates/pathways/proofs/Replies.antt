@@ -9,6 +9,8 @@ use lib.Dec.{leb, ltb}
 use lib.ListN.{length, getD, take, drop}
 use Rattle.std.specs.Lexical.{Matches}
 use Rattle.std.specs.Orderings.{Decides}
+use Rattle.std.specs.declared.option.Option.{Option}
+use Rattle.std.specs.declared.option.Option.the-variants.{Some, None}
 use Rattle.std.specs.declared.result.Result.{Result}
 use Rattle.std.specs.declared.result.Result.the-variants.{Ok, Err}
 use Rattle.std.specs.shelf.Text.{sameBytes}
@@ -23,7 +25,7 @@ use Rattle.terms.specs.Faults.{Told}
 use Rattle.terms.specs.Replies.{Reply, copied, refused}
 use Rattle.pathways.specs.Meaning.{Pathway, nowhere}
 use Rattle.pathways.specs.Limits.{Lawful, LawfulPathway, legalId}
-use Rattle.pathways.specs.Questions.{idReply}
+use Rattle.pathways.specs.Questions.{idOf, handedOut, idReply}
 
 pub id-bytes : (id : List ℕ) → legalId id ≡ true → length id ≤ 32
 id-bytes id e =
@@ -40,7 +42,7 @@ module _ (ps : List Pathway) (n : ℕ) (lawful : Lawful ps) (inside : n < length
   module _ (old : List ℕ) (room : length old ≡ 32) where
     reply-is : idReply ps n old ≡ record { result = Ok (length id); buffer = id ++ drop (length id) old }
     reply-is =
-        cond-true (ltb n (length ps)) (copied id Set old) (refused 8 Set old) (lt-ltb n (length ps) inside)
+        ap (λ (o : Option Pathway). handedOut (idOf o) old) (cond-true (ltb n (length ps)) (Some (getD ps n nowhere)) None (lt-ltb n (length ps) inside))
         ∙ cond-true (leb (length id) (length old)) _ (refused 7 Set old) (le-leb (length id) (length old) (omega (arith, id-fits)))
 
     -- the front of the buffer is the ID

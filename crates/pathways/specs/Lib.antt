@@ -1,3 +1,4 @@
+pub mod Dialects
 pub mod Meaning
 pub mod Limits
 pub mod Questions

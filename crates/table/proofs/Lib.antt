@@ -3,4 +3,3 @@ pub mod Loops
 pub mod Chains
 pub mod Walks
 pub mod Lawful
-pub mod Replies

@@ -12,10 +12,10 @@ use Rattle.std.specs.declared.option.Option.the-variants.{Some, None}
 use Rattle.std.proofs.shelf.Lists.{drop-drop, length-drop}
 use Rattle.std.proofs.shelf.Tests.{cond-true, cond-false, lt-ltb, le-ltb}
 use Rattle.pathways.specs.Meaning.{Pathway, nowhere}
+use Rattle.pathways.specs.Questions.{numbered, membersOf, memberOf}
 use Rattle.table.specs.declared.entry.Entry.{Entry}
 use Rattle.table.specs.Contents.{countOf, contents, bodyOf, isMember}
 use Rattle.table.specs.Reading.{membersIn, pathwayAt}
-use Rattle.table.specs.Lookups.{numbered, membersOf, memberIn}
 use Rattle.table.proofs.Entries.{length-contents}
 
 pub found : (ps : List Pathway) (n : ℕ) (p : Pathway) → n < length ps → getD ps n nowhere ≡ p → numbered ps n ≡ Some p
@@ -58,12 +58,12 @@ module _ (file : List ℕ) (i n : ℕ) (ps : List Pathway) (there : n < length p
       ap Some (e ∙ ap length (sym (members-behind file i (contents file))))
       ∙ ap membersOf (sym (found ps n (pathwayAt file (drop i (contents file))) there is))
 
-  member-in : (m : ℕ) → memberIn (numbered ps n) m ≡ cond (ltb m (length (membersIn file behind))) (Some (getD (membersIn file behind) m [])) None
+  member-in : (m : ℕ) → memberOf (numbered ps n) m ≡ cond (ltb m (length (membersIn file behind))) (Some (getD (membersIn file behind) m [])) None
   member-in m =
-      ap (λ (o : Option Pathway). memberIn o m) (found ps n (pathwayAt file (drop i (contents file))) there is)
+      ap (λ (o : Option Pathway). memberOf o m) (found ps n (pathwayAt file (drop i (contents file))) there is)
       ∙ ap (λ (l : List (List ℕ)). cond (ltb m (length l)) (Some (getD l m [])) None) (members-behind file i (contents file))
 
-  pub no-member : (m k : ℕ) → k ≡ length (membersIn file behind) → k ≤ m → None ≡ memberIn (numbered ps n) m
+  pub no-member : (m k : ℕ) → k ≡ length (membersIn file behind) → k ≤ m → None ≡ memberOf (numbered ps n) m
   no-member m k e h =
       sym (member-in m ∙ cond-false _ (Some (getD (membersIn file behind) m [])) None (le-ltb m (length (membersIn file behind)) (omega arith)))
 
@@ -73,7 +73,7 @@ module _ (file : List ℕ) (i n : ℕ) (ps : List Pathway) (there : n < length p
       omega (arith, members-few file behind, length-drop (i + 1) (contents file), length-contents file)
 
   pub some-member : (m k : ℕ) (e : Entry) (rest : List Entry) (body : List ℕ) → k ≡ length (membersIn file behind) → m < k
-      → drop (i + 1 + m) (contents file) ≡ e ∷ rest → body ≡ bodyOf file e → Some body ≡ memberIn (numbered ps n) m
+      → drop (i + 1 + m) (contents file) ≡ e ∷ rest → body ≡ bodyOf file e → Some body ≡ memberOf (numbered ps n) m
   some-member m k e rest body is-k h step is-body =
       ap Some (is-body ∙ sym (member-is file behind m e rest (omega arith) (drop-drop m (i + 1) (contents file) ∙ step)))
       ∙ sym (member-in m ∙ cond-true _ (Some (getD (membersIn file behind) m [])) None (lt-ltb m (length (membersIn file behind)) (omega arith)))

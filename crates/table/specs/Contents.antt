@@ -17,8 +17,11 @@ headed file =
     leb 4 (length file)
     && (eqb (getD file 0 0) 83 && (eqb (getD file 1 0) 84 && (eqb (getD file 2 0) 1 && leb (getD file 3 0) 1)))
 
+abbrev pub dialectBy : ℕ → Dialect
+dialectBy b = cond (eqb b 0) Hls Dash
+
 abbrev pub dialectOf : List ℕ → Dialect
-dialectOf file = cond (eqb (getD file 3 0) 0) Hls Dash
+dialectOf file = dialectBy (getD file 3 0)
 
 -- a number of two bytes, the high one first
 abbrev pub pair : ℕ → ℕ → ℕ

@@ -2,5 +2,4 @@ pub mod Contents
 pub mod Reading
 pub mod Offences
 pub mod Checks
-pub mod Lookups
 pub mod Tables

@@ -167,13 +167,13 @@ pub(crate) fn count_pathways(file: &[u8]) -> usize
     requires { ⌜ spot (countOf (now file)) ≤ length (now file) ⌝ }
     ensures { λ r. ⌜ r ≡ length (pathwaysIn (now (file .entry)) (contents (now (file .entry)))) ⌝ }
 {
-    let mut ids = 0;
+    let mut found = 0;
     for i in 0..count_entries(file) {
         if entry_at(file, i).kind.is_id() {
-            ids += 1;
+            found += 1;
         }
     }
-    ids
+    found
 }
 
 // Whether entry `i` is there and is a member.

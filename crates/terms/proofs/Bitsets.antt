@@ -1,15 +1,11 @@
 -- A bit of the number that stands for four answers is the answer. Assumes nothing.
 use mathlib.Core.Path.{_≡_, refl}
-use mathlib.Core.Bool.{Bool, true, false, cond, not}
+use mathlib.Core.Bool.{Bool, true, false, cond}
 use Prim.Native.Nat.{ℕ, _+_}
-use lib.Bits.{bitAnd}
-use lib.Dec.{eqb}
+use Rattle.terms.specs.Classes.{holds}
 
 abbrev pub bits : Bool → Bool → Bool → Bool → ℕ
 bits p q r s = cond p 1 0 + (cond q 2 0 + (cond r 4 0 + cond s 8 0))
-
-abbrev pub holds : ℕ → ℕ → Bool
-holds n bit = not (eqb (bitAnd n bit) 0)
 
 pub record Answers (p q r s : Bool) : Type 0 where
   pub first : holds (bits p q r s) 1 ≡ p

@@ -1,7 +1,8 @@
 -- The four sets of bytes that texts are judged by. Assumes nothing.
-use mathlib.Core.Bool.{Bool, true, false, cond, _&&_, _||_}
+use mathlib.Core.Bool.{Bool, true, false, cond, not, _&&_, _||_}
 use mathlib.Core.List.{List, [], _∷_}
 use Prim.Native.Nat.{ℕ, suc, _+_}
+use lib.Bits.{bitAnd}
 use lib.Chars.{codes}
 use lib.Dec.{eqb, leb}
 use lib.ListN.{length}
@@ -47,6 +48,10 @@ isName most text = leb 1 (length text) && (leb (length text) most && every nameB
 -- one number for the four: a bit for each set that the byte is in
 abbrev pub classes : ℕ → ℕ
 classes b = cond (unreserved b) 1 0 + (cond (subDelimiter b) 2 0 + (cond (hexDigit b) 4 0 + cond (nameByte b) 8 0))
+
+-- a number has a bit
+abbrev pub holds : ℕ → ℕ → Bool
+holds n bit = not (eqb (bitAnd n bit) 0)
 
 -- each entry of a table is what the rule says of its place, the first place being i
 abbrev pub obeys : (ℕ → ℕ) → ℕ → List ℕ → Bool

@@ -2,7 +2,7 @@
 ghost use mathlib.Core.Path.{_≡_};
 ghost use mathlib.Core.Bool.{true};
 ghost use lib.ListN.{length};
-ghost use Rattle.terms.specs.Classes.{obeys, classes, unreserved, subDelimiter, hexDigit, nameByte};
+ghost use Rattle.terms.specs.Classes.{obeys, classes, holds, unreserved, subDelimiter, hexDigit, nameByte};
 
 // An entry holds one bit for each class that its byte is in.
 const UNRESERVED: u8 = 1;
@@ -40,8 +40,12 @@ fn table() -> &'static [u8; 256]
     &CLASSES
 }
 
+// The classes of a byte: each bit says what the byte's set says.
 fn classes_of(byte: u8) -> u8
-    ensures { λ r. ⌜ r ≡ classes byte ⌝ }
+    ensures unreserved { λ r. ⌜ holds r 1 ≡ unreserved byte ⌝ }
+    ensures sub_delimiter { λ r. ⌜ holds r 2 ≡ subDelimiter byte ⌝ }
+    ensures hex_digit { λ r. ⌜ holds r 4 ≡ hexDigit byte ⌝ }
+    ensures name_byte { λ r. ⌜ holds r 8 ≡ nameByte byte ⌝ }
 {
     table()[byte as usize]
 }

@@ -5,11 +5,9 @@ use crate::layer::Layer;
 use crate::refusal::Refusal;
 use std::fmt;
 use crate::layer::LayerDebug;
-use crate::layer::LayerPartialEq;
 use crate::refusal::RefusalDebug;
-use crate::refusal::RefusalPartialEq;
 
-#[derive(Clone, Copy, Debug, PartialEq, Eq)]
+#[derive(Clone, Copy, Debug)]
 pub struct Fault {
     pub refusal: Refusal,
     pub place: usize,

@@ -1,9 +1,8 @@
 // Why a call or a text is turned down. Each case has a number, by which it is known outside.
 ghost use mathlib.Core.Path.{_≡_};
 ghost use Rattle.terms.specs.Refusals.{number, reason};
-use std::fmt;
 
-#[derive(Clone, Copy, Debug, PartialEq, Eq)]
+#[derive(Clone, Copy, Debug)]
 pub enum Refusal {
     MomentOutOfRange,
     WrongToken,

@@ -4,9 +4,9 @@ ghost use Prim.Native.Nat.{_+_, _<_, _≤_};
 ghost use lib.ListN.{length, drop, getD};
 ghost use Rattle.std.specs.Options.{Cases, mapped};
 ghost use Rattle.pathways.specs.Meaning.{nowhere};
+ghost use Rattle.pathways.specs.Questions.{numbered, idOf, membersOf, memberOf};
 ghost use Rattle.table.specs.Contents.{countOf, spot, contents, Within};
 ghost use Rattle.table.specs.Reading.{membersIn, pathwayAt, pathwaysIn};
-ghost use Rattle.table.specs.Lookups.{numbered, idIn, membersOf, memberIn};
 use crate::contents::body_of;
 use crate::contents::count_entries;
 use crate::contents::entry_at;
@@ -48,7 +48,7 @@ fn count_members(file: &[u8], from: usize) -> usize
 pub(crate) fn id_at(file: &[u8], number: usize) -> Option<&[u8]>
     requires fits { ⌜ spot (countOf (now file)) ≤ length (now file) ⌝ }
     requires within { ⌜ Within (now file) ⌝ }
-    ensures { λ r. ⌜ mapped now r ≡ idIn (numbered (pathwaysIn (now (file .entry)) (contents (now (file .entry)))) number) ⌝ }
+    ensures { λ r. ⌜ mapped now r ≡ idOf (numbered (pathwaysIn (now (file .entry)) (contents (now (file .entry)))) number) ⌝ }
 {
     let i = locate(file, number)?;
     Some(body_of(file, entry_at(file, i)))
@@ -65,7 +65,7 @@ pub(crate) fn members_at(file: &[u8], number: usize) -> Option<usize>
 pub(crate) fn member_at(file: &[u8], number: usize, member: usize) -> Option<&[u8]>
     requires fits { ⌜ spot (countOf (now file)) ≤ length (now file) ⌝ }
     requires within { ⌜ Within (now file) ⌝ }
-    ensures { λ r. ⌜ mapped now r ≡ memberIn (numbered (pathwaysIn (now (file .entry)) (contents (now (file .entry)))) number) member ⌝ }
+    ensures { λ r. ⌜ mapped now r ≡ memberOf (numbered (pathwaysIn (now (file .entry)) (contents (now (file .entry)))) number) member ⌝ }
 {
     let i = locate(file, number)?;
     if member >= count_members(file, i + 1) {

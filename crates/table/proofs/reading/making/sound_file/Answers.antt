@@ -1,4 +1,6 @@
-use mathlib.Core.Path.{refl, sym, ap, _∙_}
+use mathlib.Core.Path.{sym, ap, _∙_}
+use mathlib.Core.List.{List}
+use Prim.Native.Nat.{ℕ}
 use Rattle.std.specs.Results.{isOk}
 use Rattle.std.proofs.shelf.Tests.{cond-true, cond-false}
 use Rattle.table.specs.Checks.{checked}
@@ -16,6 +18,6 @@ returns-in-Ok c =
 pub returns-in-Err : need.returns-in-Err
 returns-in-Err c =
     record {
-      is = sym (cond-false _ (c .args .file .now) example (sym (ap isOk (c .in-Err .ensures tt))));
-      sound = refl;
+      is = c .example-file .ensures ∙ sym (cond-false _ (c .args .file .now) example (sym (ap isOk (c .in-Err .ensures tt))));
+      sound = ap (λ (l : List ℕ). isOk (checked l)) (c .example-file .ensures);
     }

@@ -1,0 +1,16 @@
+use mathlib.Core.Path.{refl}
+use Rattle.table.proofs.Lawful.{sound-within, sound-lawful, sound-described}
+use Rattle.table.proofs.reading.ServiceTable.checked_file.Needs as need
+
+pub returns : need.returns
+returns c =
+    let file = c .args .self .now .file .now in
+    let sound = c .args .self .now .sound in
+    record {
+      is = refl;
+      fits = c .args .self .now .fits;
+      within = sound-within file sound;
+      some = c .args .self .now .some;
+      lawful = sound-lawful file sound;
+      described = sound-described file sound;
+    }

@@ -1,6 +1,0 @@
-use mathlib.Core.Path.{ap, _∙_}
-use Rattle.terms.proofs.Bitsets.{holds, answers}
-use Rattle.terms.proofs.classes.is_hex_digit.Needs as need
-
-pub returns : need.returns
-returns c = ap (λ n. holds n 4) (c .classes-of .ensures) ∙ answers _ _ _ _ .third

@@ -1,6 +1,0 @@
-use mathlib.Core.Path.{ap, _∙_}
-use Rattle.terms.proofs.Bitsets.{holds, answers}
-use Rattle.terms.proofs.classes.is_unreserved.Needs as need
-
-pub returns : need.returns
-returns c = ap (λ n. holds n 1) (c .classes-of .ensures) ∙ answers _ _ _ _ .first
