@@ -31,11 +31,11 @@ use Rattle.table.proofs.Entries.{length-contents}
 use Rattle.table.proofs.Chains.{all-within}
 
 -- no offence: the test was not met, and there is none further on
-none-further : (b : Bool) (p : ℕ) (o : Option ℕ) → cond b (Some p) o ≡ None → (b ≡ false) × (o ≡ None)
+pub none-further : (b : Bool) (p : ℕ) (o : Option ℕ) → cond b (Some p) o ≡ None → (b ≡ false) × (o ≡ None)
 none-further true p o e = let z : _≡_ {A = ℕ} 0 1 = cc in absurd (omega arith)
 none-further false p o e = (refl, e)
 
-none-passed : (b : Bool) (p : ℕ) (o : Option ℕ) → cond b o (Some p) ≡ None → (b ≡ true) × (o ≡ None)
+pub none-passed : (b : Bool) (p : ℕ) (o : Option ℕ) → cond b o (Some p) ≡ None → (b ≡ true) × (o ≡ None)
 none-passed true p o e = (refl, e)
 none-passed false p o e = let z : _≡_ {A = ℕ} 0 1 = cc in absurd (omega arith)
 
@@ -169,7 +169,7 @@ module _ (file : List ℕ) where
   or-assoc true b c = refl
   or-assoc false b c = refl
 
-  has-append : (id : List ℕ) (es : List Entry) (e : Entry) → hasId file id (es ++ e ∷ []) ≡ (hasId file id es || (isId (e .kind) && sameBytes (bodyOf file e) id))
+  pub has-append : (id : List ℕ) (es : List Entry) (e : Entry) → hasId file id (es ++ e ∷ []) ≡ (hasId file id es || (isId (e .kind) && sameBytes (bodyOf file e) id))
   has-append id [] e = or-none (isId (e .kind) && sameBytes (bodyOf file e) id)
   has-append id (x ∷ es) e =
       ap (λ (b : Bool). (isId (x .kind) && sameBytes (bodyOf file x) id) || b) (has-append id es e)
@@ -209,12 +209,15 @@ module _ (file : List ℕ) where
           }
 
   -- the first entry is the steering URI
-  steering-legal : (es : List Entry) → outOfOrder es ≡ None → badUri file es ≡ None → legal (steeringIn file es) ≡ true
-  steering-legal [] o u = let z : _≡_ {A = ℕ} 0 1 = cc in absurd (omega arith)
-  steering-legal (e ∷ es) o u =
+  pub first-legal : (e : Entry) (es : List Entry) → outOfOrder (e ∷ es) ≡ None → badUri file (e ∷ es) ≡ None → legal (bodyOf file e) ≡ true
+  first-legal e es o u =
       let p = none-passed (follows None (e .kind)) (spot 0) (disordered (Some (e .kind)) 1 es) o in
       let q = none-further (not (isId (e .kind)) && not (legal (bodyOf file e))) (e .place) (badUri file es) u in
-      legal-whole (bodyOf file e) (judged-false (isId (e .kind)) (legal (bodyOf file e)) (first-no-id (e .kind) (p .0)) (q .0))
+      judged-false (isId (e .kind)) (legal (bodyOf file e)) (first-no-id (e .kind) (p .0)) (q .0)
+
+  steering-legal : (es : List Entry) → outOfOrder es ≡ None → badUri file es ≡ None → legal (steeringIn file es) ≡ true
+  steering-legal [] o u = let z : _≡_ {A = ℕ} 0 1 = cc in absurd (omega arith)
+  steering-legal (e ∷ es) o u = legal-whole (bodyOf file e) (first-legal e es o u)
 
   steering-whole : (es : List Entry) → outOfOrder es ≡ None → fragment (steeringIn file es) ≡ None
   steering-whole [] o = let z : _≡_ {A = ℕ} 0 1 = cc in absurd (omega arith)
@@ -234,16 +237,16 @@ all-kept [] e = tt
 all-kept (r ∷ rs) e = let p = rule-kept (r .number) (r .offence) rs e in (p .0, all-kept rs (p .1))
 
 module _ (file : List ℕ) (sound : isOk (checked file) ≡ true) where
-  kept : All (λ (r : Rule). r .offence ≡ None) (layout file ++ sense file)
+  pub kept : All (λ (r : Rule). r .offence ≡ None) (layout file ++ sense file)
   kept = all-kept (layout file ++ sense file) sound
 
   fits-kept : contentsLong file ≡ None
   fits-kept = kept .1 .1 .1 .0
 
-  within-kept : overlong (length file) 0 (contents file) ≡ None
+  pub within-kept : overlong (length file) 0 (contents file) ≡ None
   within-kept = kept .1 .1 .1 .1 .1 .0
 
-  order-kept : outOfOrder (contents file) ≡ None
+  pub order-kept : outOfOrder (contents file) ≡ None
   order-kept = kept .1 .1 .1 .1 .1 .1 .1 .1 .0
 
   ids-kept : badId file (contents file) ≡ None
@@ -252,7 +255,7 @@ module _ (file : List ℕ) (sound : isOk (checked file) ≡ true) where
   repeats-kept : repeated file [] (contents file) ≡ None
   repeats-kept = kept .1 .1 .1 .1 .1 .1 .1 .1 .1 .1 .0
 
-  uris-kept : badUri file (contents file) ≡ None
+  pub uris-kept : badUri file (contents file) ≡ None
   uris-kept = kept .1 .1 .1 .1 .1 .1 .1 .1 .1 .1 .1 .0
 
   counts-kept : badCount file (contents file) ≡ None

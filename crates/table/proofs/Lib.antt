@@ -3,3 +3,12 @@ pub mod Loops
 pub mod Chains
 pub mod Walks
 pub mod Lawful
+pub mod Written
+pub mod Inverse
+pub mod Rules
+pub mod Apart
+pub mod Accepted
+pub mod Regrouped
+pub mod Spelled
+pub mod Sound
+pub mod Format

@@ -3,3 +3,4 @@ pub mod Reading
 pub mod Offences
 pub mod Checks
 pub mod Tables
+pub mod Format

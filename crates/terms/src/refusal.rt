@@ -71,7 +71,7 @@ impl Refusal {
     }
 
     // The reason in plain words.
-    pub fn reason(self) -> &'static str
+    pub(crate) fn reason(self) -> &'static str
         ensures { λ r. ⌜ now r ≡ reason self ⌝ }
     {
         match self {

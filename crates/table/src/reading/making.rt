@@ -3,6 +3,7 @@ ghost use mathlib.Core.Path.{_≡_};
 ghost use mathlib.Core.Bool.{true};
 ghost use Rattle.std.specs.Results.{isOk};
 ghost use Rattle.table.specs.Checks.{checked};
+ghost use Rattle.table.specs.Format.{Table, meant};
 ghost use Rattle.table.specs.Tables.{example, opened, described, tableMeaning};
 use super::ServiceTable;
 use crate::check::check;
@@ -28,9 +29,10 @@ fn sound_file(file: &[u8]) -> &[u8]
 }
 
 impl<'a> ServiceTable<'a> {
-    // Refuses nothing: past a fault it is the example's table.
+    // Refuses nothing: past a fault it is the example's table. A service table means what was written.
     pub fn new(file: &'a [u8]) -> ServiceTable<'a>
-        ensures { λ r. ⌜ tableMeaning r ≡ described (now (file .entry)) ⌝ }
+        ensures value { λ r. ⌜ tableMeaning r ≡ described (now (file .entry)) ⌝ }
+        ensures written { λ r. ⌜ ((t : Table (now (file .entry))) → tableMeaning r ≡ meant t) ⌝ }
     {
         let file = sound_file(file);
         ServiceTable { file }

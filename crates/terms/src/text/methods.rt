@@ -1,6 +1,5 @@
 // Making a bounded text, and lending its bytes.
 ghost use mathlib.Core.Path.{_≡_};
-ghost use mathlib.Core.List.{[]};
 ghost use Prim.Native.Nat.{_≤_, _<_};
 ghost use lib.ListN.{length};
 ghost use Rattle.std.specs.Options.{mapped};
@@ -8,12 +7,6 @@ ghost use Rattle.terms.specs.Texts.{content, bounded};
 use super::Text;
 
 impl<const N: usize> Text<N> {
-    pub fn empty() -> Self
-        ensures { λ r. ⌜ content r ≡ [] ⌝ }
-    {
-        Text { bytes: [0; N], len: 0 }
-    }
-
     // The text, or none where it has more than N bytes.
     pub fn new(text: &[u8]) -> Option<Self>
         ensures { λ r. ⌜ mapped content r ≡ bounded N (now (text .entry)) ⌝ }
