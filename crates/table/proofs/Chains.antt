@@ -37,9 +37,9 @@ judged-append (x ∷ xs) ys =
     ap (and-then (verdict (x .number) (x .offence))) (judged-append xs ys)
     ∙ and-then-assoc (verdict (x .number) (x .offence)) (judged xs) (judged ys)
 
-pub made-any : {X Y P : Type 0} (r : Result X Y) → P → made r (λ _. P)
-made-any (Ok x) p = p
-made-any (Err y) p = tt
+pub made-any : {X Y : Type 0} (P : Type 0) (r : Result X Y) → P → made r (λ _. P)
+made-any P (Ok x) p = p
+made-any P (Err y) p = tt
 
 pub stop : (v next : Result (Unit {0}) Told) (t : Told) → Err t ≡ v → Err t ≡ and-then v next
 stop v next t e = ap (λ (w : Result (Unit {0}) Told). and-then w next) e

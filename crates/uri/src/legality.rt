@@ -114,10 +114,17 @@ fn are_legal(parts: Parts) -> bool
         && is_query(parts.fragment)
 }
 
-// Whether `uri` is a legal URI.
+// Short enough, and each part in its form.
+fn keeps_rules(uri: &[u8]) -> bool
+    ensures { λ r. ⌜ r ≡ legal (now (uri .entry)) ⌝ }
+{
+    uri.len() <= URI_BYTES && are_legal(split(uri))
+}
+
+// Whether `uri` is a legal URI: whether the grammar derives it.
 pub fn is_legal(uri: &[u8]) -> bool
     ensures value { λ r. ⌜ r ≡ legal (now (uri .entry)) ⌝ }
     ensures grammar { λ r. ⌜ Decides r (Uri (now (uri .entry))) ⌝ }
 {
-    uri.len() <= URI_BYTES && are_legal(split(uri))
+    keeps_rules(uri)
 }

@@ -1,8 +1,8 @@
 use mathlib.Core.Path.{sym, ap, _∙_}
-use Prim.Native.Nat.{ℕ}
+use Prim.Native.Nat.{ℕ, _≤_}
 use lib.Dec.{ltb}
 use lib.ListN.{length}
-use Rattle.table.specs.Contents.{countOf, spot, contents}
+use Rattle.table.specs.Contents.{countOf, spot, contents, Within}
 use Rattle.table.specs.Offences.{badLength, badHeader, countMissing, contentsLong, misplaced, overlong, leftOver, placed}
 use Rattle.table.specs.Checks.{verdict}
 use Rattle.table.proofs.Chains.{skip, and-then-done, kept, all-within, made-any}
@@ -23,6 +23,6 @@ returns c =
           ∙ skip (verdict 12 (misplaced 0 (spot (countOf file)) (contents file))) _ (c .in-Continue-end .ensures tt .answer)
           ∙ skip (verdict 12 (overlong (length file) 0 (contents file))) _ (c .in-Continue-check-lengths .ensures tt .answer)
           ∙ and-then-done (verdict 12 (leftOver (length file) (spot (countOf file)) (contents file))));
-      fits = made-any (c .check-end .result) (c .in-Continue-check-contents .ensures tt .fits);
-      within = made-any (c .check-end .result) (all-within (length file) 0 (contents file) (kept 12 _ (c .in-Continue-check-lengths .ensures tt .answer)));
+      fits = made-any (spot (countOf file) ≤ length file) (c .check-end .result) (c .in-Continue-check-contents .ensures tt .fits);
+      within = made-any (Within file) (c .check-end .result) (all-within (length file) 0 (contents file) (kept 12 _ (c .in-Continue-check-lengths .ensures tt .answer)));
     }

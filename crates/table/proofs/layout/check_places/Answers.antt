@@ -1,26 +1,9 @@
 use mathlib.Core.Path.{sym, ap, _∙_}
 use native.Mathlib.Omega.{arith}
-use lib.ListN.{drop}
-use Rattle.table.specs.Contents.{contents}
 use Rattle.table.specs.Offences.{misplaced, endOf}
 use Rattle.table.proofs.Entries.{no-more}
-use Rattle.table.proofs.Loops.{misplaced-on, misplaced-here, ends-on, refused-at, passed}
+use Rattle.table.proofs.Loops.{passed}
 use Rattle.table.proofs.layout.check_places.Needs as need
-
-pub returns-then-entry-due : need.returns-then-entry-due
-returns-then-entry-due c =
-    record {
-      answer = refused-at 12 _ _ _ _ (c .refuse .ensures) (c .spot-of .ensures)
-        (c .loop-i .inv .0 ∙ misplaced-here _ _ (c .entry-at-entry .result) (c .entry-at-entry .ensures .step) (c .loop-i .i) (c .loop-i .due) (c .if-entry-due .taken));
-      end = tt;
-    }
-
-pub loop-i-again : need.loop-i-again
-loop-i-again c =
-    (
-      c .loop-i .inv .0 ∙ misplaced-on _ _ (c .entry-at-entry .result) (c .entry-at-entry .ensures .step) (c .loop-i .i) (c .loop-i .due) _ (c .if-entry-due .left) (omega arith),
-      c .loop-i .inv .1 ∙ ends-on _ _ (c .entry-at-entry .result) (c .entry-at-entry .ensures .step) (c .loop-i .i) (c .loop-i .due) _ (c .if-entry-due .left) (omega arith),
-    )
 
 pub returns : need.returns
 returns c =

@@ -3,7 +3,7 @@ use native.Mathlib.Omega.{arith}
 use Rattle.table.specs.Contents.{contents}
 use Rattle.table.specs.Offences.{disordered}
 use Rattle.table.proofs.Entries.{no-more, length-contents}
-use Rattle.table.proofs.Loops.{passed, some-order, no-order}
+use Rattle.table.proofs.Loops.{passed, some-order}
 use Rattle.table.proofs.sense.check_order.Needs as need
 
 pub returns : need.returns

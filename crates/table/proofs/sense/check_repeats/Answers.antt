@@ -13,7 +13,7 @@ use Rattle.table.proofs.sense.check_repeats.Needs as need
 pub loop-i-again : need.loop-i-again
 loop-i-again c =
     c .loop-i .inv
-    ∙ repeat-on _ _ (c .entry-at-entry .result) (c .entry-at-entry .ensures .step) (c .loop-i .i) (c .args .file .now) (take (c .loop-i .i) (contents (c .args .file .now))) (sym (c .if-is-repeat .ensures tt))
+    ∙ repeat-on (c .args .file .now) _ _ (c .entry-at-entry .result) (c .entry-at-entry .ensures .step) (take (c .loop-i .i) (contents (c .args .file .now))) (sym (c .if-is-repeat .ensures tt))
     ∙ ap (λ (l : List Entry). repeated (c .args .file .now) l (drop (c .loop-i .i + 1) (contents (c .args .file .now)))) (sym (taken-more (contents (c .args .file .now)) _ (c .loop-i .i) (c .entry-at-entry .result) (c .entry-at-entry .ensures .step)))
 
 pub returns : need.returns

@@ -10,11 +10,11 @@ use Rattle.table.proofs.sense.stands_before.Needs as need
 
 pub returns-then-is-that-id : need.returns-then-is-that-id
 returns-then-is-that-id c =
-    sym (c .loop-i .inv ∙ has-here _ _ (c .entry-at .result) (front-step (contents (c .args .file .now)) _ (c .loop-i .i) (c .entry-at .result) (c .entry-at .ensures .step) (c .args .end) (c .loop-i-test .taken)) (c .loop-i .i) (c .args .file .now) (c .args .id .now) (sym (c .if-is-that-id .ensures tt)))
+    sym (c .loop-i .inv ∙ has-here (c .args .file .now) _ _ (c .entry-at .result) (front-step (contents (c .args .file .now)) _ (c .loop-i .i) (c .entry-at .result) (c .entry-at .ensures .step) (c .args .end) (c .loop-i-test .taken)) (c .args .id .now) (sym (c .if-is-that-id .ensures tt)))
 
 pub loop-i-again : need.loop-i-again
 loop-i-again c =
-    c .loop-i .inv ∙ has-on _ _ (c .entry-at .result) (front-step (contents (c .args .file .now)) _ (c .loop-i .i) (c .entry-at .result) (c .entry-at .ensures .step) (c .args .end) (c .loop-i-test .taken)) (c .loop-i .i) (c .args .file .now) (c .args .id .now) (sym (c .if-is-that-id .ensures tt))
+    c .loop-i .inv ∙ has-on (c .args .file .now) _ _ (c .entry-at .result) (front-step (contents (c .args .file .now)) _ (c .loop-i .i) (c .entry-at .result) (c .entry-at .ensures .step) (c .args .end) (c .loop-i-test .taken)) (c .args .id .now) (sym (c .if-is-that-id .ensures tt))
 
 pub returns : need.returns
 returns c =
