@@ -26,13 +26,13 @@ bytes =
 pub record ExampleIsRead : Type 0 where
   pub long : length bytes ≡ 59
   pub entries :
-    contents bytes
-    ≡ record { kind = Steering; place = 21; size = 19 } ∷ record { kind = Id; place = 40; size = 1 } ∷ record { kind = Member; place = 41; size = 18 } ∷ []
+      contents bytes
+      ≡ record { kind = Steering; place = 21; size = 19 } ∷ record { kind = Id; place = 40; size = 1 } ∷ record { kind = Member; place = 41; size = 18 } ∷ []
   pub legal : checked bytes ≡ Ok tt
   pub meaning :
-    meaningOf bytes
-    ≡ record {
-      dialect = Dash;
-      steering = codes "https://s.example/a";
-      pathways = record { id = codes "a"; members = codes "https://c.example/" ∷ [] } ∷ [];
-    }
+      meaningOf bytes
+      ≡ record {
+        dialect = Dash;
+        steering = codes "https://s.example/a";
+        pathways = record { id = codes "a"; members = codes "https://c.example/" ∷ [] } ∷ [];
+      }

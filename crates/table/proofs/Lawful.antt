@@ -148,8 +148,7 @@ module _ (file : List ℕ) where
           → All LawfulPathway (pathwaysIn file es)
           → All LawfulPathway (cond b (pathwayAt file (e ∷ es) ∷ pathwaysIn file es) (pathwaysIn file es))
       go true t x u′ y z more =
-          let none : membersNow members (e .kind) ≡ 0 = cond-false (isMember (e .kind)) (members + 1) 0 (id-no-member (e .kind) t) in
-          (
+          let none : membersNow members (e .kind) ≡ 0 = cond-false (isMember (e .kind)) (members + 1) 0 (id-no-member (e .kind) t) in (
             record {
               id = judged-true (isId (e .kind)) (legalId (bodyOf file e)) t x;
               some = some-members es (id-in-limits ids members (e .kind) es t y .1);

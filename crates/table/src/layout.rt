@@ -27,7 +27,11 @@ pub(crate) const COUNT: usize = 4;
 pub(crate) fn refuse(refusal: Refusal, place: usize) -> Fault
     ensures { λ r. ⌜ told r ≡ record { number = number refusal; place = place; layer = Description } ⌝ }
 {
-    Fault { refusal, place, layer: Layer::Description }
+    Fault {
+        refusal,
+        place,
+        layer: Layer::Description,
+    }
 }
 
 fn check_length(file: &[u8]) -> Result<(), Fault>

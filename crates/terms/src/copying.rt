@@ -12,7 +12,11 @@ pub fn copy_out(text: &[u8], layer: Layer, buffer: &mut [u8]) -> Result<usize, F
 {
     let length = text.len();
     if length > buffer.len() {
-        return Err(Fault { refusal: Refusal::BufferShort, place: 0, layer });
+        return Err(Fault {
+            refusal: Refusal::BufferShort,
+            place: 0,
+            layer,
+        });
     }
     let front = &mut buffer[0..length];
     front.copy_from_slice(text);

@@ -2,10 +2,10 @@
 ghost use Rattle.std.specs.declared.option.Option.the-variants.{Some};
 ghost use Rattle.terms.specs.Spoken.{spoken};
 use crate::layer::Layer;
-use crate::refusal::Refusal;
-use std::fmt;
 use crate::layer::LayerDebug;
+use crate::refusal::Refusal;
 use crate::refusal::RefusalDebug;
+use std::fmt;
 
 #[derive(Clone, Copy, Debug)]
 pub struct Fault {

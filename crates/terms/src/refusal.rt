@@ -86,12 +86,14 @@ impl Refusal {
             Refusal::OwnUri => "the playlist's own URI is illegal",
             Refusal::Length => "the length is 0 or above 65,535",
             Refusal::Header => "the first line, or the first four bytes, are wrong",
-            Refusal::Structure => "an attribute list, or the count, place or length of entries, is wrong",
+            Refusal::Structure =>
+                "an attribute list, or the count, place or length of entries, is wrong",
             Refusal::Order => "the steering line, or the kind or order of an entry, is wrong",
             Refusal::StreamWithoutUri => "a stream line has no URI line",
             Refusal::PathwayId => "a pathway ID is illegal or repeated",
             Refusal::Uri => "a URI is illegal",
-            Refusal::Count => "a count is outside its limits, or the steering pathway is none of them",
+            Refusal::Count =>
+                "a count is outside its limits, or the steering pathway is none of them",
             Refusal::ManifestLength => "the manifest's length is 0 or above 16,384",
             Refusal::NotJson => "the text is no JSON object of the kind that is read",
             Refusal::KeyRepeated => "a known key stands twice in an object",

@@ -42,7 +42,13 @@ pub fn split(text: &[u8]) -> Parts<'_>
     let (front, query) = cut(b'?', whole);
     let (scheme, rest) = cut_scheme(front);
     let (authority, path) = cut_authority(rest);
-    Parts { scheme, authority, path, query, fragment }
+    Parts {
+        scheme,
+        authority,
+        path,
+        query,
+        fragment,
+    }
 }
 
 // The text before its first `#`.

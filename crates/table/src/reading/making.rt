@@ -9,7 +9,8 @@ use super::ServiceTable;
 use crate::check::check;
 
 // The smallest table with an entry of each kind: DASH, steered by https://s.example/a, one pathway `a` with the member https://c.example/.
-static EXAMPLE: [u8; 59] = *b"ST\x01\x01\x00\x03\x00\x00\x15\x00\x13\x01\x00\x28\x00\x01\x02\x00\x29\x00\x12https://s.example/aahttps://c.example/";
+static EXAMPLE: [u8; 59] =
+    *b"ST\x01\x01\x00\x03\x00\x00\x15\x00\x13\x01\x00\x28\x00\x01\x02\x00\x29\x00\x12https://s.example/aahttps://c.example/";
 
 fn example_file() -> &'static [u8]
     ensures { λ r. ⌜ now r ≡ example ⌝ }

@@ -29,7 +29,11 @@ use uri::splitting::without_fragment;
 fn no_such_number() -> Fault
     ensures { λ r. ⌜ told r ≡ record { number = 8; place = 0; layer = Set } ⌝ }
 {
-    Fault { refusal: Refusal::NoSuchNumber, place: 0, layer: Layer::Set }
+    Fault {
+        refusal: Refusal::NoSuchNumber,
+        place: 0,
+        layer: Layer::Set,
+    }
 }
 
 // Copies the text that was looked up, where there is one.

@@ -14,11 +14,9 @@ use crate::contents::entry_at;
 // The entry of the ID of a pathway.
 fn locate(file: &[u8], number: usize) -> Option<usize>
     requires { ⌜ spot (countOf (now file)) ≤ length (now file) ⌝ }
-    ensures {
-        λ r. ⌜ Cases r (length (pathwaysIn (now (file .entry)) (contents (now (file .entry)))) ≤ number)
-          (λ i. (i < countOf (now (file .entry))) × (number < length (pathwaysIn (now (file .entry)) (contents (now (file .entry)))))
-            × (getD (pathwaysIn (now (file .entry)) (contents (now (file .entry)))) number nowhere ≡ pathwayAt (now (file .entry)) (drop i (contents (now (file .entry)))))) ⌝
-    }
+    ensures { λ r. ⌜ Cases r (length (pathwaysIn (now (file .entry)) (contents (now (file .entry)))) ≤ number)
+        (λ i. (i < countOf (now (file .entry))) × (number < length (pathwaysIn (now (file .entry)) (contents (now (file .entry)))))
+        × (getD (pathwaysIn (now (file .entry)) (contents (now (file .entry)))) number nowhere ≡ pathwayAt (now (file .entry)) (drop i (contents (now (file .entry)))))) ⌝ }
 {
     let mut left = number;
     for i in 0..count_entries(file) {

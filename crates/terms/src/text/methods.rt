@@ -18,7 +18,10 @@ impl<const N: usize> Text<N> {
         for i in 0..text.len() {
             bytes[i] = text[i];
         }
-        Some(Text { bytes, len: text.len() })
+        Some(Text {
+            bytes,
+            len: text.len(),
+        })
     }
 
     pub fn as_bytes(&self) -> &[u8]

@@ -13,9 +13,9 @@ returns c =
     let file = c .args .file .now in
     record {
       answer =
-        c .check-end .ensures
-        ∙ ap (λ (n : ℕ). verdict 12 (placed (ltb n (length file)) 4)) (c .in-Continue-end .ensures tt .end)
-        ∙ sym
+          c .check-end .ensures
+          ∙ ap (λ (n : ℕ). verdict 12 (placed (ltb n (length file)) 4)) (c .in-Continue-end .ensures tt .end)
+          ∙ sym
           (skip (verdict 10 (badLength file)) _ (c .in-Continue-check-length .ensures tt)
           ∙ skip (verdict 11 (badHeader file)) _ (c .in-Continue-rest .ensures tt .answer)
           ∙ skip (verdict 12 (countMissing file)) _ (c .in-Continue-count .ensures tt .answer)

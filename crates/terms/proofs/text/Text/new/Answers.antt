@@ -18,11 +18,10 @@ copied-more xs ys i h k e =
     take-more-set xs i (getD ys i 0) h ∙ ap (λ (l : List ℕ). l ++ getD ys i 0 ∷ []) e ∙ sym (take-more ys i 0 k)
 
 pub loop-i-again : need.loop-i-again
-loop-i-again g c =
-    (
-      length-set _ _ _ ∙ c .loop-i .inv .0,
-      copied-more (c .loop-i .bytes) (c .args .text .now) (c .loop-i .i) (omega (arith, c .loop-i .inv .0)) (omega arith) (c .loop-i .inv .1),
-    )
+loop-i-again g c = (
+  length-set _ _ _ ∙ c .loop-i .inv .0,
+  copied-more (c .loop-i .bytes) (c .args .text .now) (c .loop-i .i) (omega (arith, c .loop-i .inv .0)) (omega arith) (c .loop-i .inv .1),
+)
 
 all-copied : (xs ys : List ℕ) (n i : ℕ) → take i xs ≡ take i ys → i ≡ length ys → length ys ≤ n → Some (take (length ys) xs) ≡ bounded n ys
 all-copied xs ys n i e k h =
