@@ -8,7 +8,7 @@ ghost use Rattle.table.specs.Tables.{example, opened, described, tableMeaning}
 use super::ServiceTable;
 use crate::check::check;
 
-// The smallest table with an entry of each kind: DASH, steered by https://s.example/a, one pathway `a` with the member https://c.example/.
+// A table with an entry of each kind: DASH, steered by https://s.example/a, one pathway `a` with the member https://c.example/.
 static EXAMPLE: [u8; 59] =
     *b"ST\x01\x01\x00\x03\x00\x00\x15\x00\x13\x01\x00\x28\x00\x01\x02\x00\x29\x00\x12https://s.example/aahttps://c.example/";
 

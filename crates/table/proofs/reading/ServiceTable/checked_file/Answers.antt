@@ -1,5 +1,5 @@
 use mathlib.Core.Path.{refl}
-use Rattle.table.proofs.Lawful.{sound-within, sound-lawful, sound-described}
+use Rattle.table.proofs.Lawful.{sound-fits, sound-within, sound-some, sound-lawful, sound-described}
 use Rattle.table.proofs.reading.ServiceTable.checked_file.Needs as need
 
 pub returns : need.returns
@@ -8,9 +8,9 @@ returns c =
     let sound = c .args .self .now .sound in
     record {
       is = refl;
-      fits = c .args .self .now .fits;
+      fits = sound-fits file sound;
       within = sound-within file sound;
-      some = c .args .self .now .some;
+      some = sound-some file sound;
       lawful = sound-lawful file sound;
       described = sound-described file sound;
     }
