@@ -1,4 +1,7 @@
 // Printing any description, by the questions that it answers.
+ghost use mathlib.Core.Path.{_≡_};
+ghost use lib.ListN.{take};
+ghost use Rattle.std.specs.Vec.{made};
 use crate::failure::Failure;
 use crate::failure::FailureFromFault;
 use crate::failure::FailureFromWriting;
@@ -9,7 +12,9 @@ use pathways::set::Pathways;
 const ANSWER_BYTES: usize = 512;
 
 // An answer of that length at the front of the buffer, as text.
-fn text(buffer: &[u8], length: usize) -> Result<&str, Failure> {
+fn text(buffer: &[u8], length: usize) -> Result<&str, Failure>
+    ensures { λ r. ⌜ made r (λ x. now x ≡ take length (now (buffer .entry))) ⌝ }
+{
     let Some(bytes) = buffer.get(0..length) else {
         return Err(Failure::NoText);
     };
