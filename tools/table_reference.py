@@ -1,10 +1,12 @@
 #!/usr/bin/env python3
-"""What the program `table_tests` has to print, by a reader of service tables that shares no code with it.
+"""Writes what the program `table_tests` reads and what it has to print, by a reader of service tables that shares no
+code with it.
 
-    python3 tools/table_reference.py < crates/table_tests/stdin > crates/table_tests/stdout
+    python3 tools/table_reference.py            writes crates/table_tests/stdin and crates/table_tests/stdout
+    python3 tools/table_reference.py --check    writes nothing; status 1 where one of them is not what would be written
 
-A line of the input is a case, a comment that begins with `#`, or empty. A case is a name and then words, all parted by
-single spaces. Words that build the table come first:
+The cases stand in tools/table_cases.txt. A line there is a case, a comment that begins with `#`, or empty. A case is a
+name and then words, all parted by single spaces. Words that build the table come first:
 
     hls, dash        the dialect byte, 0 or 1; the last of these words counts
     KIND:TEXT        an entry of that kind (0 to 255), with TEXT as its body
@@ -25,20 +27,28 @@ V is a number, or +N or -N for a change of what stands there. In TEXT, `\\hh` is
 `{TEXT*N}` is TEXT repeated N times (without braces inside), and `{#}` is the number of the entry within `N*KIND:TEXT`,
 from 1. The characters `\\`, `{` and `}` stand for themselves in no text: they are written in hex.
 
-Of each case this is printed, and at the end the number of cases:
+The program reads a line for each case: the name, and behind a space the bytes of the table in words parted by single
+spaces. A word is bytes in small hex digits, or `N*HH`, which is one byte N times. A table without bytes is `0*00`.
+
+Of each case it prints this, and at the end the number of cases:
 
     NAME accepted DIALECT STEERING-URI ID:MEMBERS ..
     NAME refused NUMBER PLACE description example
 
 Below an accepted table stands a line for each member URI, or, for more than four, their number and a digest. `example`
-says that the reader gives the description of the table `example` in place of one that is refused. A line that is no case
-gives `line NUMBER unreadable`.
+says that the reader gives the description of the table `example` in place of one that is refused.
 """
 
 import itertools
 import re
 import struct
 import sys
+from pathlib import Path
+
+ROOT = Path(__file__).resolve().parent.parent
+CASES = ROOT / "tools/table_cases.txt"
+STDIN = ROOT / "crates/table_tests/stdin"
+STDOUT = ROOT / "crates/table_tests/stdout"
 
 
 class Unreadable(Exception):
@@ -300,23 +310,51 @@ def report(name, file):
     return lines + ["  %d members, digest %d" % (len(members), digest(members))]
 
 
-def main():
-    cases = 0
-    for number, line in enumerate(sys.stdin, 1):
-        line = line.rstrip()
+# ---- the two files ----
+
+# So many equal bytes in a row, and more, are written as a run.
+RUN = re.compile(rb"(.)\1{7,}", re.DOTALL)
+
+
+def words_of(file):
+    """The bytes of a table as the program reads them."""
+    words, at = [], 0
+    for run in RUN.finditer(file):
+        words += [file[at : run.start()].hex(), "%d*%s" % (len(run[0]), run[1].hex())]
+        at = run.end()
+    words.append(file[at:].hex())
+    return " ".join(word for word in words if word) or "0*00"
+
+
+def cases():
+    """The names and tables of all cases."""
+    for number, line in enumerate(CASES.read_text().splitlines(), 1):
         if not line or line.startswith("#"):
             continue
         name, *words = line.split(" ")
         try:
             if not words:
                 raise Unreadable
-            lines = report(name, built(words))
-            cases += 1
+            yield name, built(words)
         except (Unreadable, ValueError):
-            lines = ["line %d unreadable" % number]
-        print("\n".join(lines))
-    print("%d cases" % cases)
+            sys.exit("%s: line %d is no case: %s" % (CASES, number, line))
+
+
+def main(words):
+    if words not in ([], ["--check"]):
+        sys.exit("usage: python3 tools/table_reference.py [--check]")
+    given, expected = [], []
+    for name, file in cases():
+        given.append("%s %s" % (name, words_of(file)))
+        expected += report(name, file)
+    expected.append("%d cases" % len(given))
+    for path, lines in ((STDIN, given), (STDOUT, expected)):
+        text = "".join(line + "\n" for line in lines)
+        if not words:
+            path.write_text(text)
+        elif not path.exists() or path.read_text() != text:
+            sys.exit("%s is not what tools/table_reference.py writes" % path)
 
 
 if __name__ == "__main__":
-    main()
+    main(sys.argv[1:])
