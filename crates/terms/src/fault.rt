@@ -2,12 +2,10 @@
 ghost use Rattle.std.specs.declared.option.Option.the-variants.{Some};
 ghost use Rattle.terms.specs.Spoken.{spoken};
 use crate::layer::Layer;
-use crate::layer::LayerDebug;
 use crate::refusal::Refusal;
-use crate::refusal::RefusalDebug;
 use std::fmt;
 
-#[derive(Clone, Copy, Debug)]
+#[derive(Clone, Copy)]
 pub struct Fault {
     pub refusal: Refusal,
     pub place: usize,
