@@ -2,7 +2,6 @@ pub mod Classes
 pub mod Refusals
 pub mod Layers
 pub mod Faults
-pub mod Spoken
 pub mod Replies
 pub mod Texts
 pub mod Times

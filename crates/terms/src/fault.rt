@@ -1,6 +1,4 @@
 // A refusal with the place of the offence in the text and the layer that found it.
-ghost use Rattle.std.specs.declared.option.Option.the-variants.{Some};
-ghost use Rattle.terms.specs.Spoken.{spoken};
 use crate::layer::Layer;
 use crate::refusal::Refusal;
 use std::fmt;
@@ -14,8 +12,6 @@ pub struct Fault {
 
 // Number, place and layer, and then the reason in plain words.
 pub impl fmt::Display for Fault as FaultDisplay {
-    ghost shown = { λ f. Some (spoken f) };
-
     fn fmt<W: fmt::Write>(&self, f: &mut fmt::Formatter<W>) -> fmt::Result {
         let number = self.refusal.number();
         let place = self.place;

@@ -1,6 +1,6 @@
 // Why a call or a text is turned down. Each case has a number, by which it is known outside.
 ghost use mathlib.Core.Path.{_≡_};
-ghost use Rattle.terms.specs.Refusals.{number, reason};
+ghost use Rattle.terms.specs.Refusals.{number};
 
 #[derive(Clone, Copy)]
 pub enum Refusal {
@@ -71,9 +71,7 @@ impl Refusal {
     }
 
     // The reason in plain words.
-    pub(crate) fn reason(self) -> &'static str
-        ensures { λ r. ⌜ now r ≡ reason self ⌝ }
-    {
+    pub(crate) fn reason(self) -> &'static str {
         match self {
             Refusal::MomentOutOfRange => "the moment is before the latest one or above 2^53",
             Refusal::WrongToken => "the token is not the open request's",
