@@ -1,18 +1,15 @@
 -- The rules, entry by entry, where the loops of the check and of the reader do not show them by themselves. Assumes nothing.
-use mathlib.Core.Path.{_≡_, refl, sym, ap, subst, _∙_}
+use mathlib.Core.Path.{_≡_, refl, sym, ap, _∙_}
 use mathlib.Core.Bool.{Bool, true, false, not, _&&_, _||_}
 use mathlib.Core.List.{List, [], _∷_, _++_}
 use Prim.Native.Nat.{ℕ, _<_, _≤_}
 use native.Mathlib.Omega.{arith}
 use lib.ListN.{length, getD}
-use Rattle.std.specs.Orderings.{Decides}
 use Rattle.std.specs.declared.option.Option.{Option}
 use Rattle.std.specs.declared.option.Option.the-variants.{Some, None}
 use Rattle.std.specs.declared.result.Result.the-variants.{Ok}
 use Rattle.std.specs.shelf.Text.{sameBytes}
-use Rattle.std.proofs.shelf.Equals.{sameBytes-decides}
 use Rattle.std.proofs.shelf.Tests.{cond-false, eq-eqb, le-leb, and-from, not-from-true}
-use Rattle.std.proofs.shelf.Ways.{same-from-decides}
 use Rattle.table.specs.declared.entry.Entry.{Entry}
 use Rattle.table.specs.Contents.{headed, bodyOf, isId, isMember}
 use Rattle.table.specs.Reading.{membersIn}
@@ -53,8 +50,3 @@ some-order (e ∷ es) h = refl
 -- what the check answers where there is no offence
 pub passed : (n : ℕ) (o : Option ℕ) → o ≡ None → Ok tt ≡ verdict n o
 passed n o h = ap (verdict n) (sym h)
-
--- what `==` on slices answers, as a test
-pub same-body : (xs ys zs : List ℕ) (r : Bool) → Decides r (xs ≡ ys) → xs ≡ zs → r ≡ sameBytes zs ys
-same-body xs ys zs r h e =
-    same-from-decides r (sameBytes zs ys) (subst (λ (l : List ℕ). Decides r (l ≡ ys)) e h) (sameBytes-decides zs ys)

@@ -17,7 +17,6 @@ mod report;
 
 use crate::decode::decode;
 use crate::report::report;
-use std::error::AnyError;
 use std::io;
 use std::io::BufRead;
 use std::io::BufReader;
