@@ -1,4 +1,6 @@
 // Worked cases, as theorems over the definitions that the library is proved against.
+#![tactic(auto)]
+
 ghost use Rattle.std.specs.Prelude.{◌≡◌};
 ghost use Rattle.cases.specs.ServiceTables.{ExampleIsRead};
 

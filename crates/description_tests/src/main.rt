@@ -17,6 +17,8 @@
 // that is no case gives `line NUMBER unreadable`.
 //
 // The cases and what is expected of them are written by tools/steering_reference.py, which has readers of its own.
+#![tactic(auto)]
+
 mod decode;
 mod report;
 

@@ -1,4 +1,6 @@
 // Multivariant playlists: what their tags say, their streams, and the rules that they are held to.
+#![tactic(auto)]
+
 pub mod check;
 mod counting;
 pub mod entries;

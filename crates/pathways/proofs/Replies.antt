@@ -1,16 +1,14 @@
 -- What the ID question answers where its number is there and the buffer is long enough. Assumes nothing.
-use Rattle.std.proofs.Common.{◌≡◌, ℕ, ◌-◌, ◌<◌, ◌≤◌, Bool, true, false, ltb, leb, List, ◌++◌, length, get_or, take, drop, Some, None, Ok, Err, Decides, Option, Result, sym, ap, ◌∙◌, subst, ⊎_elim, arith}
-use Rattle.std.specs.Cmp.Lexicographic.{Matches}
+use Rattle.std.proofs.Common.{◌≡◌, ℕ, ◌-◌, ◌<◌, ◌≤◌, true, false, ltb, leb, List, ◌++◌, length, get_or, take, drop, Some, None, Ok, Err, Option, Result, ap, ◌∙◌, arith}
 use Rattle.std.specs.Str.{bytes_eq}
 use Rattle.std.proofs.ByRecursion.{All-get_or}
-use Rattle.std.proofs.lemmas.Slice.Eq.{slice_eq-Decides, bytes_eq-Decides}
+use Rattle.std.proofs.lemmas.Slice.Eq.{bytes_eq-Decides}
 use Rattle.std.proofs.lemmas.List.{take_at}
 use Rattle.std.proofs.lemmas.Bool.{cond-true, lt-ltb, le-leb, leb-true, and_parts, cases_Bool}
-use Rattle.std.proofs.lemmas.Bool.Decides.{same_from_decides}
 use Rattle.terms.specs.Classes.{every, name_byte}
 use Rattle.terms.specs.declared.layer.Layer.TheVariants.{Set}
 use Rattle.terms.specs.Faults.{Told}
-use Rattle.terms.specs.Replies.{Reply, copied, refused}
+use Rattle.terms.specs.Replies.{Reply, refused}
 use Rattle.pathways.specs.Meaning.{Pathway, nowhere}
 use Rattle.pathways.specs.Limits.{Lawful, LawfulPathway, legal_id}
 use Rattle.pathways.specs.Questions.{id_of, handed_out, id_reply}

@@ -1,5 +1,5 @@
 -- Where an ID stands in a set of pathways. Assumes nothing.
-use Rattle.std.specs.Prelude.{◌≡◌, ℕ, ◌<◌, List, [], length, Some, None, Option, ◌≢◌, slice_index_or}
+use Rattle.std.specs.Prelude.{◌≡◌, ℕ, ◌<◌, List, length, Some, None, Option, ◌≢◌, slice_index_or}
 use Rattle.pathways.specs.Meaning.{Pathway, nowhere}
 
 -- the number of the pathway that has the ID, and of none before it; or that none has it

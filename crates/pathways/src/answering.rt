@@ -35,7 +35,7 @@ pub fn no_such_number() -> Fault
 
 // Copies the text that was looked up, where there is one.
 pub fn hand_out(text: Option<&[u8]>, buffer: &mut [u8]) -> Result<usize, Fault>
-    ensures* { λ r. ⌜ record { result = outcome r; buffer = buffer.new } ≡ handed_out (option_map (λ x. x.now) text.entry) buffer.old ⌝ }
+    ensures { record { result = outcome result; buffer = buffer.new } ≡ handed_out (option_map (λ x. x.now) text.entry) buffer.old }
 {
     match text {
         Some(bytes) => copy_out(bytes, Layer::Set, buffer),

@@ -20,6 +20,6 @@ pub trait Description: Pathways {
 
     // The steering URI without fragment, copied to the front of `buffer`: its length.
     fn steering(&self, buffer: &mut [u8]) -> Result<usize, Fault>
-        ensures* reply { λ r. ⌜ record { result = outcome r; buffer = buffer.new } ≡ copied (meaning self.now).steering Set buffer.old ⌝ }
+        ensures reply { record { result = outcome result; buffer = buffer.new } ≡ copied (meaning self.now).steering Set buffer.old }
         ensures described { Described (meaning self.now) (Self.Pathways.pathways self.now) };
 }

@@ -18,7 +18,7 @@ pub trait Pathways {
 
     // The ID of a pathway, copied to the front of `buffer`: its length.
     fn id(&self, number: usize, buffer: &mut [u8]) -> Result<usize, Fault>
-        ensures* { λ r. ⌜ record { result = outcome r; buffer = buffer.new } ≡ id_reply (pathways self.now) number buffer.old ⌝ };
+        ensures { record { result = outcome result; buffer = buffer.new } ≡ id_reply (pathways self.now) number buffer.old };
 
     // How many members a pathway has.
     fn members(&self, number: usize) -> Result<usize, Fault>
@@ -26,5 +26,5 @@ pub trait Pathways {
 
     // The URI of a member, copied to the front of `buffer`: its length.
     fn member(&self, number: usize, member: usize, buffer: &mut [u8]) -> Result<usize, Fault>
-        ensures* { λ r. ⌜ record { result = outcome r; buffer = buffer.new } ≡ member_reply (pathways self.now) number member buffer.old ⌝ };
+        ensures { record { result = outcome result; buffer = buffer.new } ≡ member_reply (pathways self.now) number member buffer.old };
 }

@@ -1,3 +1,5 @@
 // HLS playlists as descriptions.
+#![tactic(auto)]
+
 pub mod reading;
 mod source;

@@ -1,4 +1,6 @@
 // References, and the URIs that they stand for.
+#![tactic(auto)]
+
 mod choosing;
 mod composing;
 mod removal;

@@ -1,4 +1,6 @@
 // The program `steer`: prints the description that a service table holds.
+#![tactic(auto)]
+
 mod command;
 mod failure;
 mod reading;

@@ -5,7 +5,7 @@ use Rattle.std.proofs.ByRecursion.{All-drop}
 use Rattle.std.proofs.lemmas.List.{drop_more, drop-drop, drop_all, get_or-drop, get_or-take, length-drop, length-take, take_more}
 use Rattle.table.specs.declared.kind.Kind.{Kind}
 use Rattle.table.specs.declared.entry.Entry.{Entry}
-use Rattle.table.specs.Contents.{pair, kind_of, count_of, spot, entry_of, entries_of, contents, Within}
+use Rattle.table.specs.Contents.{pair, kind_of, count_of, entry_of, entries_of, contents, Within}
 
 pub length-entries : (n : ℕ) (bytes : List ℕ) → length (entries_of n bytes) ≡ n
 length-entries zero bytes = refl

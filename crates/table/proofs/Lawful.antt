@@ -1,5 +1,5 @@
 -- A file that passes the check describes what keeps the limits. Assumes nothing.
-use Rattle.std.proofs.Common.{◌≡◌, ℕ, suc, ◌+◌, ◌<◌, ◌≤◌, Bool, true, false, cond, not, ◌&&◌, ◌||◌, eqb, ltb, leb, List, [], ◌∷◌, ◌++◌, length, is_ok, Some, None, Option, sym, refl, ap, ◌∙◌, subst, zero-le, arith}
+use Rattle.std.proofs.Common.{◌≡◌, ℕ, ◌+◌, ◌<◌, ◌≤◌, Bool, true, false, cond, not, ◌&&◌, ◌||◌, eqb, ltb, leb, List, [], ◌∷◌, ◌++◌, length, is_ok, Some, None, Option, sym, refl, ap, ◌∙◌, subst, arith}
 use Rattle.std.specs.List.{AllByRecursion as All}
 use Rattle.std.specs.Str.{bytes_eq}
 use Rattle.std.proofs.ByRecursion.{All-weaker}
@@ -7,16 +7,16 @@ use Rattle.std.proofs.lemmas.Slice.Eq.{bytes_eq-Decides}
 use Rattle.std.proofs.lemmas.Bool.{false≢true, true≢false, not-false, ltb-false, leb-false, eqb-false, or_parts, cond-true, cond-false}
 use Rattle.std.proofs.lemmas.Bool.Decides.{not_from_Decides}
 use Rattle.uri.specs.Legal.{legal}
-use Rattle.uri.specs.Splits.{without_fragment, fragment}
+use Rattle.uri.specs.Splits.{fragment}
 use Rattle.uri.proofs.Fragments.{legal-whole, no_fragment}
-use Rattle.pathways.specs.Meaning.{Pathway, Meaning, ids}
+use Rattle.pathways.specs.Meaning.{ids}
 use Rattle.pathways.specs.Limits.{legal_id, Different, LawfulPathway, Lawful, Described}
 use Rattle.table.specs.declared.kind.Kind.{Kind}
 use Rattle.table.specs.declared.kind.Kind.TheVariants.{Steering, Id, Member, Unknown}
 use Rattle.table.specs.declared.entry.Entry.{Entry}
 use Rattle.table.specs.Contents.{count_of, spot, contents, Within, body_of, is_id, is_member}
 use Rattle.table.specs.Reading.{members_in, pathway_at, pathways_in, steering_in, meaning_of}
-use Rattle.table.specs.Offences.{placed, contents_long, overlong, follows, disordered, out_of_order, bad_id, has_id, repeated, bad_uri, member_first, excess, ids_now, members_now, overrun, bad_count}
+use Rattle.table.specs.Offences.{contents_long, overlong, follows, disordered, out_of_order, bad_id, has_id, repeated, bad_uri, member_first, excess, ids_now, members_now, overrun, bad_count}
 use Rattle.table.specs.Checks.{Rule, verdict, and_then, judged, layout, sense, checked}
 use Rattle.table.proofs.Entries.{length-contents}
 use Rattle.table.proofs.Chains.{all_within}

@@ -1,5 +1,5 @@
 -- What a service table means, and what is made of any bytes. Assumes nothing.
-use Rattle.std.specs.Prelude.{ℕ, cond, List, [], ◌∷◌, ◌++◌, is_ok, codes}
+use Rattle.std.specs.Prelude.{ℕ, cond, List, ◌∷◌, ◌++◌, is_ok, codes}
 use Rattle.pathways.specs.Meaning.{Pathway, Meaning}
 use Rattle.table.specs.declared.reading.ServiceTable.{ServiceTable}
 use Rattle.table.specs.Contents.{contents}

@@ -1,4 +1,6 @@
 // Service tables: the binary form of a description.
+#![tactic(auto)]
+
 pub mod check;
 mod contents;
 pub mod entry;

@@ -12,6 +12,8 @@
 // A line that is no case gives `line NUMBER unreadable`.
 //
 // The cases and what is expected of them are written by tools/table_reference.py, which has a reader of its own.
+#![tactic(auto)]
+
 mod decode;
 mod report;
 

@@ -1,4 +1,6 @@
 // The lines of an HLS playlist, and the attribute lists of its tags.
+#![tactic(auto)]
+
 pub mod attributes;
 pub mod charset;
 pub mod field;

@@ -9,7 +9,7 @@ use crate::refusal::Refusal;
 
 // Copies `text` to the front of `buffer` and answers its length.
 pub fn copy_out(text: &[u8], layer: Layer, buffer: &mut [u8]) -> Result<usize, Fault>
-    ensures* { λ r. ⌜ record { result = outcome r; buffer = buffer.new } ≡ copied text.now layer buffer.old ⌝ }
+    ensures { record { result = outcome result; buffer = buffer.new } ≡ copied text.now layer buffer.old }
 {
     let length = text.len();
     if length > buffer.len() {

@@ -1,4 +1,6 @@
 // What every layer of the library speaks in: byte classes, refusals, bounded texts, seconds and moments.
+#![tactic(auto)]
+
 pub mod classes;
 pub mod copying;
 pub mod draft;

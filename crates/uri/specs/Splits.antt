@@ -1,5 +1,5 @@
 -- The five parts of a URI or a reference, as RFC 3986 cuts them (section 3 and appendix B). Assumes nothing.
-use Rattle.std.specs.Prelude.{ℕ, ◌+◌, Bool, true, false, cond, not, ◌&&◌, List, [], ◌∷◌, length, drop, Some, None, Option, ◌==◌, nat_lt}
+use Rattle.std.specs.Prelude.{ℕ, ◌+◌, Bool, false, cond, not, ◌&&◌, List, [], ◌∷◌, drop, Some, None, Option, ◌==◌, nat_lt}
 use Rattle.uri.specs.Cuts.{place, before, behind, holds}
 
 -- the fragment stands behind the first `#`

@@ -10,6 +10,8 @@
 // line that is no case gives `line NUMBER unreadable`.
 //
 // The cases and what is expected of them are written by tools/steering_reference.py, which has functions of its own.
+#![tactic(auto)]
+
 mod decode;
 
 use crate::decode::decode;

@@ -99,7 +99,7 @@ impl<'a> Playlist<'a> {
 
 // Copies a URI without its fragment, where there is one.
 fn copy_whole(uri: Option<Text<512>>, buffer: &mut [u8]) -> Result<usize, Fault>
-    ensures* { λ r. ⌜ record { result = outcome r; buffer = buffer.new } ≡ copied (without_fragment (or_nothing (option_map content uri))) Set buffer.old ⌝ }
+    ensures { record { result = outcome result; buffer = buffer.new } ≡ copied (without_fragment (or_nothing (option_map content uri))) Set buffer.old }
 {
     match uri {
         Some(uri) => copy_out(without_fragment(uri.as_bytes()), Layer::Set, buffer),

@@ -9,11 +9,11 @@ returns-in-default c =
     omega (arith, c.loop-i.invariant.0, ap (λ (l : List Served). count_of c.args.id.now (take (c.args.end - c.loop-i.i) l)) c.in-default.ensures.step, count_none c.args.id.now (c.args.end - c.loop-i.i))
 
 pub loop-i-preserved : goal.loop-i-preserved
-loop-i-preserved c = elim c.if-is-of.branch [
-  | goal.then-is-of w ↦
-      counted-one c.args.id.now c.args.end c.loop-i.i _ c.loop-i.count c.if-is-of.count (served c.in-Some.stream) (streams_at c.in-Some.stream.uri.next c.args.text.now) _
-      c.in-Some.ensures.step c.loop-i-test.true c.loop-i.invariant.0 c.loop-i.invariant.1 (sym w.if-is-of.ensures) w.count_is
-  | goal.else-is-of w ↦
-      counted_none c.args.id.now c.args.end c.loop-i.i _ c.loop-i.count c.if-is-of.count (served c.in-Some.stream) (streams_at c.in-Some.stream.uri.next c.args.text.now) _
-      c.in-Some.ensures.step c.loop-i-test.true c.loop-i.invariant.0 c.loop-i.invariant.1 (sym w.if-is-of.ensures) w.count_is
+loop-i-preserved c = elim c.if-is_of.branch [
+  | goal.then-is_of w ↦
+      counted-one c.args.id.now c.args.end c.loop-i.i _ c.loop-i.count c.if-is_of.count (served c.in-Some.stream) (streams_at c.in-Some.stream.uri.next c.args.text.now) _
+      c.in-Some.ensures.step c.loop-i-test.true c.loop-i.invariant.0 c.loop-i.invariant.1 (sym w.if-is_of.ensures) w.count_is
+  | goal.else-is_of w ↦
+      counted_none c.args.id.now c.args.end c.loop-i.i _ c.loop-i.count c.if-is_of.count (served c.in-Some.stream) (streams_at c.in-Some.stream.uri.next c.args.text.now) _
+      c.in-Some.ensures.step c.loop-i-test.true c.loop-i.invariant.0 c.loop-i.invariant.1 (sym w.if-is_of.ensures) w.count_is
 ]

@@ -1,10 +1,10 @@
 use Rattle.std.proofs.Common.{arith}
 use Rattle.multivariant.proofs.spans.id_span.Goals as goal
 
-pub inner-span-requires : goal.inner-span-requires
-inner-span-requires c =
+pub inner_span-requires : goal.inner_span-requires
+inner_span-requires c =
     record {
       line = c.requires.lies;
-      value = c.in-ok-id.ensures.lies;
-      room = omega (arith, c.requires.within, c.in-ok-id.ensures.within);
+      value = c.in_ok-id.ensures.lies;
+      room = omega (arith, c.requires.within, c.in_ok-id.ensures.within);
     }

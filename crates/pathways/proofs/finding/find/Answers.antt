@@ -4,12 +4,12 @@ use Rattle.pathways.proofs.Replies.{not_same}
 use Rattle.pathways.proofs.finding.find.Goals as goal
 
 pub loop-number-preserved : goal.loop-number-preserved
-loop-number-preserved g c = below_more _ _ c.loop-number.invariant (not_same _ _ c.if-has-id.ensures)
+loop-number-preserved g c = below_more _ _ c.loop-number.invariant (not_same _ _ c.if-has_id.ensures)
 
-pub returns-then-has-id : goal.returns-then-has-id
-returns-then-has-id g c = (
+pub returns-then-has_id : goal.returns-then-has_id
+returns-then-has_id g c = (
   omega (arith, c.count-count.ensures.value),
-  (bytes_eq-Decides _ _).0 (sym c.if-has-id.ensures),
+  (bytes_eq-Decides _ _).0 (sym c.if-has_id.ensures),
   c.loop-number.invariant,
 )
 

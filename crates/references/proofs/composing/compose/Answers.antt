@@ -9,8 +9,8 @@ returns c =
     let parts = meant (pieces c.args.target) in
     record {
       text = all_put (scheme_text parts.scheme) parts.path parts.authority parts.query parts.fragment
-          (take c.put-scheme-colon.result c.put-scheme-colon.new.uri) (take c.put-marked-from.result c.put-marked-from.new.uri) (take c.put-path-to.result c.put-path-to.new.uri) (take c.put-marked-behind.result c.put-marked-behind.new.uri) (take c.put-marked.result c.put-marked.new.uri)
-          c.put-scheme-colon.ensures.front c.put-marked-from.ensures.front c.put-path-to.ensures.front c.put-marked-behind.ensures.front c.put-marked.ensures.front;
+          (take c.put_scheme-colon.result c.put_scheme-colon.new.uri) (take c.put_marked-from.result c.put_marked-from.new.uri) (take c.put_path-to.result c.put_path-to.new.uri) (take c.put_marked-behind.result c.put_marked-behind.new.uri) (take c.put_marked.result c.put_marked.new.uri)
+          c.put_scheme-colon.ensures.front c.put_marked-from.ensures.front c.put_path-to.ensures.front c.put_marked-behind.ensures.front c.put_marked.ensures.front;
       within = omega arith;
-      len = c.put-marked.ensures.len ∙ c.put-marked-behind.ensures.len ∙ c.put-path-to.ensures.len ∙ c.put-marked-from.ensures.len ∙ c.put-scheme-colon.ensures.len;
+      len = c.put_marked.ensures.len ∙ c.put_marked-behind.ensures.len ∙ c.put_path-to.ensures.len ∙ c.put_marked-from.ensures.len ∙ c.put_scheme-colon.ensures.len;
     }

@@ -8,6 +8,6 @@ returns c =
     let at = c.args.at in
     record {
       end = refl;
-      front = part_front c.args.uri.now part c.copy-from-slice.new.self at (at + length part - at) c.requires c.copy-from-slice.ensures.after (omega arith);
-      len = part_length c.args.uri.now part c.copy-from-slice.new.self at (at + length part - at) c.requires c.copy-from-slice.ensures.after (omega arith);
+      front = part_front c.args.uri.now part c.copy_from_slice.new.self at (at + length part - at) c.requires c.copy_from_slice.ensures.after (omega arith);
+      len = part_length c.args.uri.now part c.copy_from_slice.new.self at (at + length part - at) c.requires c.copy_from_slice.ensures.after (omega arith);
     }

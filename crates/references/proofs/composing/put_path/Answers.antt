@@ -11,8 +11,8 @@ returns-then-kept c =
       len = c.put-to.ensures.len ∙ c.put-middle.ensures.len;
     }
 
-pub remove-dot-segments-length-requires : goal.remove-dot-segments-length-requires
-remove-dot-segments-length-requires c =
+pub remove_dot_segments-length-requires : goal.remove_dot_segments-length-requires
+remove_dot_segments-length-requires c =
     pieces_absolute c.args.uri.now c.put-middle.new.uri c.put-to.new.uri c.args.directory.now c.args.path.now c.args.from c.put-middle.result c.put-to.result c.requires.room
     c.put-middle.ensures.end c.put-middle.ensures.front c.put-middle.ensures.len c.put-to.ensures.end c.put-to.ensures.front c.put-to.ensures.len (c.requires.rooted c.if-kept.false)
 
@@ -21,11 +21,11 @@ returns c =
     record {
       front = removed_front c.args.uri.now c.put-middle.new.uri c.put-to.new.uri c.args.directory.now c.args.path.now c.args.from c.put-middle.result c.put-to.result c.requires.room
           c.put-middle.ensures.end c.put-middle.ensures.front c.put-middle.ensures.len c.put-to.ensures.end c.put-to.ensures.front c.put-to.ensures.len
-          c.remove-dot-segments-length.new.path c.remove-dot-segments-length.result c.remove-dot-segments-length.ensures.bound c.remove-dot-segments-length.ensures.len c.args.kept c.if-kept.false c.remove-dot-segments-length.ensures.value;
+          c.remove_dot_segments-length.new.path c.remove_dot_segments-length.result c.remove_dot_segments-length.ensures.bound c.remove_dot_segments-length.ensures.len c.args.kept c.if-kept.false c.remove_dot_segments-length.ensures.value;
       end = removed_end c.args.uri.now c.put-middle.new.uri c.put-to.new.uri c.args.directory.now c.args.path.now c.args.from c.put-middle.result c.put-to.result c.requires.room
           c.put-middle.ensures.end c.put-middle.ensures.front c.put-middle.ensures.len c.put-to.ensures.end c.put-to.ensures.front c.put-to.ensures.len
-          c.remove-dot-segments-length.new.path c.remove-dot-segments-length.result c.remove-dot-segments-length.ensures.bound c.remove-dot-segments-length.ensures.len;
+          c.remove_dot_segments-length.new.path c.remove_dot_segments-length.result c.remove_dot_segments-length.ensures.bound c.remove_dot_segments-length.ensures.len;
       len = removed_length c.args.uri.now c.put-middle.new.uri c.put-to.new.uri c.args.directory.now c.args.path.now c.args.from c.put-middle.result c.put-to.result c.requires.room
           c.put-middle.ensures.end c.put-middle.ensures.front c.put-middle.ensures.len c.put-to.ensures.end c.put-to.ensures.front c.put-to.ensures.len
-          c.remove-dot-segments-length.new.path c.remove-dot-segments-length.result c.remove-dot-segments-length.ensures.bound c.remove-dot-segments-length.ensures.len;
+          c.remove_dot_segments-length.new.path c.remove_dot_segments-length.result c.remove_dot_segments-length.ensures.bound c.remove_dot_segments-length.ensures.len;
     }

@@ -8,11 +8,11 @@ returns-in-Above c =
     let text = c.args.path.now in
     let to = c.args.to in
     record {
-      value = c.end-at-in-Above.ensures.value
-          ∙ above-moved text (take (to - (c.args.read + 1)) (drop (c.args.read + 1) text)) (ahead (drop to text)) c.parent-length-above.result c.args.written c.parent-length-above.ensures.within c.parent-length-above.ensures.value c.in-Above.ensures;
-      rest = c.end-at-in-Above.ensures.rest;
-      bound = c.end-at-in-Above.ensures.bound;
-      len = c.end-at-in-Above.ensures.len;
+      value = c.end_at-in-Above.ensures.value
+          ∙ above-moved text (take (to - (c.args.read + 1)) (drop (c.args.read + 1) text)) (ahead (drop to text)) c.parent_length-above.result c.args.written c.parent_length-above.ensures.within c.parent_length-above.ensures.value c.in-Above.ensures;
+      rest = c.end_at-in-Above.ensures.rest;
+      bound = c.end_at-in-Above.ensures.bound;
+      len = c.end_at-in-Above.ensures.len;
     }
 
 pub returns-in-Plain : goal.returns-in-Plain
@@ -22,8 +22,8 @@ returns-in-Plain c =
     let read = c.args.read in
     let to = c.args.to in
     record {
-      value = plain_moved text written read to c.requires.behind c.requires.some c.requires.within c.copy-within.new.self (take (to - (read + 1)) (drop (read + 1) text)) (ahead (drop to text)) c.copy-within.ensures.after refl c.requires.slash c.in-Plain.ensures;
-      rest = plain_rest text written read to c.requires.behind c.requires.some c.requires.within c.copy-within.new.self c.copy-within.ensures.after;
+      value = plain_moved text written read to c.requires.behind c.requires.some c.requires.within c.copy_within.new.self (take (to - (read + 1)) (drop (read + 1) text)) (ahead (drop to text)) c.copy_within.ensures.after refl c.requires.slash c.in-Plain.ensures;
+      rest = plain_rest text written read to c.requires.behind c.requires.some c.requires.within c.copy_within.new.self c.copy_within.ensures.after;
       bound = omega arith;
-      len = c.copy-within.ensures.len;
+      len = c.copy_within.ensures.len;
     }

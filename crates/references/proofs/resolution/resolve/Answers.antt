@@ -7,9 +7,9 @@ use Rattle.references.proofs.resolution.resolve.Goals as goal
 pub returns : goal.returns
 returns c =
     record {
-      value = c.stands-for.ensures;
-      legal = only_legal c.args.base.now c.args.reference.now (option_map content c.stands-for.result) c.stands-for.ensures;
-      undotted = undotted c.args.base.now c.args.reference.now (option_map content c.stands-for.result) c.stands-for.ensures;
-      itself = itself c.args.base.now c.args.reference.now (option_map content c.stands-for.result) c.stands-for.ensures;
+      value = c.stands_for.ensures;
+      legal = only_legal c.args.base.now c.args.reference.now (option_map content c.stands_for.result) c.stands_for.ensures;
+      undotted = undotted c.args.base.now c.args.reference.now (option_map content c.stands_for.result) c.stands_for.ensures;
+      itself = itself c.args.base.now c.args.reference.now (option_map content c.stands_for.result) c.stands_for.ensures;
       looped = looped;
     }

@@ -10,15 +10,15 @@ use Rattle.references.proofs.resolution.stands_for.Goals as goal
 pub compose-length-requires : goal.compose-length-requires
 compose-length-requires c =
     record {
-      room = room c.args.base.now c.args.reference.now (texts c.split.result) (texts c.split-2.result) (pieces c.target-of-target.result) c.split.ensures c.split-2.ensures c.target-of-target.ensures
-          (sym c.if-not-is-legal.ensures.value) (sym c.if-not-is-reference.ensures) (there_found c.target-of-target.result.parts.authority c.if-is-none.ensures) _ c.blank-uri.ensures;
-      rooted = rooted c.args.base.now c.args.reference.now (texts c.split.result) (texts c.split-2.result) (pieces c.target-of-target.result) c.split.ensures c.split-2.ensures c.target-of-target.ensures
-          (sym c.if-not-is-legal.ensures.value) (sym c.if-not-is-reference.ensures) (there_found c.target-of-target.result.parts.authority c.if-is-none.ensures);
+      room = room c.args.base.now c.args.reference.now (texts c.split.result) (texts c.split-2.result) (pieces c.target_of-target.result) c.split.ensures c.split-2.ensures c.target_of-target.ensures
+          (sym c.if-not-is_legal.ensures.value) (sym c.if-not-is_reference.ensures) (there_found c.target_of-target.result.parts.authority c.if-is_none.ensures) _ c.blank-uri.ensures;
+      rooted = rooted c.args.base.now c.args.reference.now (texts c.split.result) (texts c.split-2.result) (pieces c.target_of-target.result) c.split.ensures c.split-2.ensures c.target_of-target.ensures
+          (sym c.if-not-is_legal.ensures.value) (sym c.if-not-is_reference.ensures) (there_found c.target_of-target.result.parts.authority c.if-is_none.ensures);
     }
 
 pub returns : goal.returns
 returns c =
-    answered c.args.base.now c.args.reference.now (texts c.split.result) (texts c.split-2.result) (pieces c.target-of-target.result) c.split.ensures c.split-2.ensures c.target-of-target.ensures
-    (sym c.if-not-is-legal.ensures.value) (sym c.if-not-is-reference.ensures) (there_found c.target-of-target.result.parts.authority c.if-is-none.ensures)
-    (option_map content c.legal-text.result) (take (c.compose-length.result - 0) c.compose-length.new.uri)
-    (front_part c.compose-length.result c.compose-length.result c.compose-length.new.uri refl ∙ c.compose-length.ensures.text) c.legal-text.ensures
+    answered c.args.base.now c.args.reference.now (texts c.split.result) (texts c.split-2.result) (pieces c.target_of-target.result) c.split.ensures c.split-2.ensures c.target_of-target.ensures
+    (sym c.if-not-is_legal.ensures.value) (sym c.if-not-is_reference.ensures) (there_found c.target_of-target.result.parts.authority c.if-is_none.ensures)
+    (option_map content c.legal_text.result) (take (c.compose-length.result - 0) c.compose-length.new.uri)
+    (front_part c.compose-length.result c.compose-length.result c.compose-length.new.uri refl ∙ c.compose-length.ensures.text) c.legal_text.ensures

@@ -13,7 +13,7 @@ returns-in-default g c =
 pub returns : goal.returns
 returns g c =
     host-written c.args.uri.now c.args.host.now (texts c.split-parts.result) c.split-parts.ensures g.row.N c.in-Some.authority.now
-    (drafted c.new-draft.result) (drafted c.write-scheme.new.draft) (drafted c.push.new.self) (drafted c.write-authority.new.draft)
-    (drafted c.push-2.new.self) (drafted c.write-marked.new.draft) (drafted c.write-marked-2.new.draft) (option_map content c.finish.result)
-    (ap (option_map (λ x. x.now)) c.in-Some.is) c.new-draft.ensures c.write-scheme.ensures c.push.ensures c.write-authority.ensures
-    c.push-2.ensures c.write-marked.ensures c.write-marked-2.ensures c.finish.ensures
+    (drafted c.new-draft.result) (drafted c.write_scheme.new.draft) (drafted c.push.new.self) (drafted c.write_authority.new.draft)
+    (drafted c.push-2.new.self) (drafted c.write_marked.new.draft) (drafted c.write_marked-2.new.draft) (option_map content c.finish.result)
+    (ap (option_map (λ x. x.now)) c.in-Some.is) c.new-draft.ensures c.write_scheme.ensures c.push.ensures c.write_authority.ensures
+    c.push-2.ensures c.write_marked.ensures c.write_marked-2.ensures c.finish.ensures

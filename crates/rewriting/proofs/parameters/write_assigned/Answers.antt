@@ -5,6 +5,6 @@ use Rattle.rewriting.proofs.parameters.write_assigned.Goals as goal
 
 pub returns : goal.returns
 returns g c =
-    c.write-part-2.ensures
-    ∙ ap (λ (d : Option (List ℕ)). extended g.row.N d (61 ∷ c.args.value.now)) c.write-part.ensures
+    c.write_part-2.ensures
+    ∙ ap (λ (d : Option (List ℕ)). extended g.row.N d (61 ∷ c.args.value.now)) c.write_part.ensures
     ∙ extended_twice g.row.N (drafted c.args.draft.now) (c.args.mark ∷ c.args.name.now) (61 ∷ c.args.value.now)

@@ -7,5 +7,5 @@ use Rattle.table.proofs.layout.check_lengths.Goals as goal
 pub returns : goal.returns
 returns c =
     record {
-      answer = passed 12 _ (c.loop-i.invariant ∙ ap (overlong (length c.args.file.now) c.loop-i.i) (no_more c.args.file.now c.loop-i.i (omega (arith, c.count-entries-i-end.ensures.value))));
+      answer = passed 12 _ (c.loop-i.invariant ∙ ap (overlong (length c.args.file.now) c.loop-i.i) (no_more c.args.file.now c.loop-i.i (omega (arith, c.count_entries-i-end.ensures.value))));
     }

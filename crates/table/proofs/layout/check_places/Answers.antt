@@ -6,7 +6,7 @@ use Rattle.table.proofs.layout.check_places.Goals as goal
 
 pub returns : goal.returns
 returns c =
-    let done = no_more c.args.file.now c.loop-i.i (omega (arith, c.count-entries-count.ensures.value)) in
+    let done = no_more c.args.file.now c.loop-i.i (omega (arith, c.count_entries-count.ensures.value)) in
     record {
       answer = passed 12 _ (c.loop-i.invariant.0 ∙ ap (misplaced c.loop-i.i c.loop-i.due) done);
       end = sym (c.loop-i.invariant.1 ∙ ap (end_of c.loop-i.due) done);

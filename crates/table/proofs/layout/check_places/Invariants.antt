@@ -1,4 +1,4 @@
-use Rattle.std.proofs.Common.{◌≡◌, ◌<◌, drop}
+use Rattle.std.proofs.Common.{◌≡◌, drop}
 use Rattle.table.specs.Contents.{count_of, spot, contents}
 use Rattle.table.specs.Offences.{misplaced, end_of}
 use Rattle.table.proofs.layout.check_places.Given as goal

@@ -6,4 +6,4 @@ use Rattle.table.proofs.sense.check_ids.Goals as goal
 
 pub returns : goal.returns
 returns c =
-    passed 15 _ (c.loop-i.invariant ∙ ap (bad_id c.args.file.now) (no_more c.args.file.now c.loop-i.i (omega (arith, c.count-entries-i-end.ensures.value))))
+    passed 15 _ (c.loop-i.invariant ∙ ap (bad_id c.args.file.now) (no_more c.args.file.now c.loop-i.i (omega (arith, c.count_entries-i-end.ensures.value))))

@@ -6,4 +6,4 @@ use Rattle.table.proofs.sense.check_kinds.Goals as goal
 
 pub returns : goal.returns
 returns c =
-    passed 13 _ (c.loop-i.invariant ∙ ap (unknown_kind c.loop-i.i) (no_more c.args.file.now c.loop-i.i (omega (arith, c.count-entries-i-end.ensures.value))))
+    passed 13 _ (c.loop-i.invariant ∙ ap (unknown_kind c.loop-i.i) (no_more c.args.file.now c.loop-i.i (omega (arith, c.count_entries-i-end.ensures.value))))

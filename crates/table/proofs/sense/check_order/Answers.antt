@@ -8,6 +8,6 @@ use Rattle.table.proofs.sense.check_order.Goals as goal
 pub returns : goal.returns
 returns c =
     passed 13 _
-    (some_order (contents c.args.file.now) (omega (arith, length-contents c.args.file.now, c.count-entries-count.ensures.value))
+    (some_order (contents c.args.file.now) (omega (arith, length-contents c.args.file.now, c.count_entries-count.ensures.value))
     ∙ c.loop-i.invariant
-    ∙ ap (disordered c.loop-i.before c.loop-i.i) (no_more c.args.file.now c.loop-i.i (omega (arith, c.count-entries-count.ensures.value))))
+    ∙ ap (disordered c.loop-i.before c.loop-i.i) (no_more c.args.file.now c.loop-i.i (omega (arith, c.count_entries-count.ensures.value))))

@@ -6,11 +6,11 @@ use Rattle.tags.proofs.attributes.field_at.Goals as goal
 pub returns : goal.returns
 returns c =
     let (step, forth, span) =
-    field_read c.args.list.now c.args.at c.if-at-list.false c.rest-from-rest.result.now c.field-length-length.result c.rest-from-rest.ensures
-    c.field-length-length.ensures.value in
+    field_read c.args.list.now c.args.at c.if-at-list.false c.rest_from-rest.result.now c.field_length-length.result c.rest_from-rest.ensures
+    c.field_length-length.ensures.value in
     record {
       step = step;
       forth = forth;
-      lies = front_found_lies c.args.list.now c.rest-from-rest.result.now c.args.at (c.field-length-length.result - 0) c.rest-from-rest.ensures;
+      lies = front_found_lies c.args.list.now c.rest_from-rest.result.now c.args.at (c.field_length-length.result - 0) c.rest_from-rest.ensures;
       span = span;
     }

@@ -6,13 +6,13 @@ pub loop-i-preserved : goal.loop-i-preserved
 loop-i-preserved c = omega (
   arith,
   c.loop-i.invariant,
-  length-later c.args.list.now c.loop-i.quoted c.loop-i.i c.now-quoted-quoted.result c.loop-i-test.true (sym c.if-is-parting.ensures) c.now-quoted-quoted.ensures,
+  length-later c.args.list.now c.loop-i.quoted c.loop-i.i c.now_quoted-quoted.result c.loop-i-test.true (sym c.if-is_parting.ensures) c.now_quoted-quoted.ensures,
 )
 
-pub returns-then-is-parting : goal.returns-then-is-parting
-returns-then-is-parting c =
+pub returns-then-is_parting : goal.returns-then-is_parting
+returns-then-is_parting c =
     record {
-      value = omega (arith, c.loop-i.invariant, length-here c.args.list.now c.loop-i.quoted c.loop-i.i c.loop-i-test.true (sym c.if-is-parting.ensures));
+      value = omega (arith, c.loop-i.invariant, length-here c.args.list.now c.loop-i.quoted c.loop-i.i c.loop-i-test.true (sym c.if-is_parting.ensures));
       within = omega arith;
     }
 

@@ -4,6 +4,6 @@ use Rattle.tags.proofs.attributes.is_list.Goals as goal
 pub returns : goal.returns
 returns c =
     record {
-      value = c.keeps-syntax.ensures;
-      grammar = decided c.args.list.now c.keeps-syntax.result c.keeps-syntax.ensures;
+      value = c.keeps_syntax.ensures;
+      grammar = decided c.args.list.now c.keeps_syntax.result c.keeps_syntax.ensures;
     }

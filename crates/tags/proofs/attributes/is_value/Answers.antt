@@ -6,4 +6,4 @@ use Rattle.tags.proofs.Fields.{quoted-value}
 use Rattle.tags.proofs.attributes.is_value.Goals as goal
 
 pub returns-in-34 : goal.returns-in-34
-returns-in-34 c = c.is-closed.ensures ∙ ap is_closed (take_rest c.args.value.now 1) ∙ quoted-value c.args.value.now (omega (arith, ltb-false)) (omega arith)
+returns-in-34 c = c.is_closed.ensures ∙ ap is_closed (take_rest c.args.value.now 1) ∙ quoted-value c.args.value.now (omega (arith, ltb-false)) (omega arith)

@@ -12,7 +12,7 @@ returns c =
     let parts = answers (unreserved b) (sub_delimiter b) (hex_digit b) (name_byte b) in
     record {
       unreserved = ap (λ (n : ℕ). holds n 1) is ∙ parts.first;
-      sub-delimiter = ap (λ (n : ℕ). holds n 2) is ∙ parts.second;
-      hex-digit = ap (λ (n : ℕ). holds n 4) is ∙ parts.third;
-      name-byte = ap (λ (n : ℕ). holds n 8) is ∙ parts.fourth;
+      sub_delimiter = ap (λ (n : ℕ). holds n 2) is ∙ parts.second;
+      hex_digit = ap (λ (n : ℕ). holds n 4) is ∙ parts.third;
+      name_byte = ap (λ (n : ℕ). holds n 8) is ∙ parts.fourth;
     }

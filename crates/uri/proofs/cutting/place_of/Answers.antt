@@ -5,12 +5,12 @@ use Rattle.uri.proofs.cutting.place_of.Goals as goal
 
 pub loop-i-preserved : goal.loop-i-preserved
 loop-i-preserved c =
-    omega (arith, c.loop-i.invariant, place-later c.args.byte c.args.text.now c.loop-i.i c.loop-i-test.true (eqb-false _ _ (sym c.if-is-that.ensures)))
+    omega (arith, c.loop-i.invariant, place-later c.args.byte c.args.text.now c.loop-i.i c.loop-i-test.true (eqb-false _ _ (sym c.if-is_that.ensures)))
 
-pub returns-then-is-that : goal.returns-then-is-that
-returns-then-is-that c =
+pub returns-then-is_that : goal.returns-then-is_that
+returns-then-is_that c =
     record {
-      value = omega (arith, c.loop-i.invariant, place_here c.args.byte c.args.text.now c.loop-i.i c.loop-i-test.true (eqb-true _ _ (sym c.if-is-that.ensures)));
+      value = omega (arith, c.loop-i.invariant, place_here c.args.byte c.args.text.now c.loop-i.i c.loop-i-test.true (eqb-true _ _ (sym c.if-is_that.ensures)));
       within = omega arith;
     }
 

@@ -1,9 +1,9 @@
-use Rattle.std.proofs.Common.{◌≡◌, ℕ, ◌+◌, ◌*◌, Bool, true, false, ◌&&◌, leb, drop, sym, ap, ◌∙◌, arith}
+use Rattle.std.proofs.Common.{◌≡◌, ℕ, ◌+◌, ◌*◌, Bool, false, ◌&&◌, leb, drop, sym, ap, ◌∙◌, arith}
 use Rattle.std.proofs.lemmas.List.{at_drop_all}
 use Rattle.std.proofs.lemmas.Bool.{and_left}
 use Rattle.terms.specs.Classes.{digit, every}
 use Rattle.uri.specs.Legal.{value}
-use Rattle.uri.proofs.Legal.{tens, ten_more, port_is, digit_on, below_digits, above_digits, value_on}
+use Rattle.uri.proofs.Legal.{ten_more, port_is, digit_on, below_digits, above_digits, value_on}
 use Rattle.uri.proofs.legality.is_port.Goals as goal
 
 pub returns-then-byte-lt48 : goal.returns-then-byte-lt48

@@ -6,6 +6,6 @@ use Rattle.uri.proofs.splitting.cut_authority.Goals as goal
 pub returns : goal.returns
 returns c =
     record {
-      authority = authority-some c.args.text.now c.place-of-slash.result (omega (arith, ltb-false)) (omega arith) (omega arith) c.place-of-slash.ensures.value;
-      path = path-behind c.args.text.now c.place-of-slash.result (omega (arith, ltb-false)) (omega arith) (omega arith) c.place-of-slash.ensures.value;
+      authority = authority-some c.args.text.now c.place_of-slash.result (omega (arith, ltb-false)) (omega arith) (omega arith) c.place_of-slash.ensures.value;
+      path = path-behind c.args.text.now c.place_of-slash.result (omega (arith, ltb-false)) (omega arith) (omega arith) c.place_of-slash.ensures.value;
     }

@@ -4,8 +4,8 @@ use Rattle.uri.proofs.splitting.cut_scheme.Goals as goal
 
 pub returns : goal.returns
 returns c =
-    let inside : c.place-of-colon.result < length c.args.text.now = omega (arith, c.place-of-colon.ensures.within, c.if-colon-text.false) in
+    let inside : c.place_of-colon.result < length c.args.text.now = omega (arith, c.place_of-colon.ensures.within, c.if-colon-text.false) in
     record {
-      scheme = scheme-some c.args.text.now c.place-of-colon.result c.place-of.result c.place-of-colon.ensures.value c.place-of.ensures.value c.if-colon-eq0.false inside c.if-place-of-front.false;
-      rest = scheme-behind c.args.text.now c.place-of-colon.result c.place-of.result c.place-of-colon.ensures.value c.place-of.ensures.value c.if-colon-eq0.false inside c.if-place-of-front.false;
+      scheme = scheme-some c.args.text.now c.place_of-colon.result c.place_of.result c.place_of-colon.ensures.value c.place_of.ensures.value c.if-colon-eq0.false inside c.if-place_of-front.false;
+      rest = scheme-behind c.args.text.now c.place_of-colon.result c.place_of.result c.place_of-colon.ensures.value c.place_of.ensures.value c.if-colon-eq0.false inside c.if-place_of-front.false;
     }

@@ -7,10 +7,10 @@ use Rattle.playlist.proofs.reading.Playlist.member_at.Goals as goal
 
 pub returns : goal.returns
 returns c =
-    c.target-for.ensures
+    c.target_for.ensures
     ∙ ap (target_for c.args.self.now.own.now) (
-    c.uri-for.ensures
-    ∙ ap (λ (items : List Item). uri_for items c.args.member (option_map (λ x. x.now) c.name-of-name.result)) c.streams.ensures
-    ∙ ap (uri_for (items_of c.args.self.now.text.now) c.args.member) c.name-of-name.ensures.name
+    c.uri_for.ensures
+    ∙ ap (λ (items : List Item). uri_for items c.args.member (option_map (λ x. x.now) c.name_of-name.result)) c.streams.ensures
+    ∙ ap (uri_for (items_of c.args.self.now.text.now) c.args.member) c.name_of-name.ensures.name
     )
-    ∙ member_by c.args.self.now.own.now (items_of c.args.self.now.text.now) (order_of c.args.self.now.text.now) c.args.number c.args.member c.name-of-name.ensures.lawful.each
+    ∙ member_by c.args.self.now.own.now (items_of c.args.self.now.text.now) (order_of c.args.self.now.text.now) c.args.number c.args.member c.name_of-name.ensures.lawful.each

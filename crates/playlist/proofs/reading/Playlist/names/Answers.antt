@@ -6,6 +6,6 @@ use Rattle.playlist.proofs.reading.Playlist.names.Goals as goal
 pub returns : goal.returns
 returns c =
     record {
-      order = ap (map (name_in c.args.self.now.text.now)) c.as-slice.ensures.value ∙ c.args.self.now.ordered;
+      order = ap (map (name_in c.args.self.now.text.now)) c.as_slice.ensures.value ∙ c.args.self.now.ordered;
       lawful = sound_lawful c.args.self.now.own.now c.args.self.now.text.now c.args.self.now.sound;
     }

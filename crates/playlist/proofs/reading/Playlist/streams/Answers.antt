@@ -6,5 +6,5 @@ use Rattle.playlist.proofs.reading.Playlist.streams.Goals as goal
 
 pub returns : goal.returns
 returns c =
-    ap (map (item_in c.args.self.now.text.now)) c.as-slice.ensures.value
+    ap (map (item_in c.args.self.now.text.now)) c.as_slice.ensures.value
     ∙ same-items _ (items_of c.args.self.now.text.now) c.args.self.now.names c.args.self.now.uris

@@ -5,5 +5,5 @@ use Rattle.playlist.proofs.reading.indexing.add.Goals as goal
 
 pub returns : goal.returns
 returns c =
-    ap (map (item_in c.args.text.now)) c.in-ok-push.ensures.items
+    ap (map (item_in c.args.text.now)) c.in_ok-push.ensures.items
     ∙ map-append (item_in c.args.text.now) (vec_items c.args.index.now) (c.args.entry ∷ [])

@@ -10,4 +10,4 @@ loop-entry-preserved c =
     one_more (items_of c.args.text.now) (map (item_in c.args.text.now) (vec_items c.loop-entry.index)) (items_at c.in-Some.entry.next c.args.text.now)
     (map (item_in c.args.text.now) (vec_items c.add.new.index)) (item_in c.args.text.now c.in-Some.entry)
     (c.loop-entry.invariant ∙ ap (λ (l : List Item). map (item_in c.args.text.now) (vec_items c.loop-entry.index) ++ l) c.in-Some.ensures.step)
-    c.in-ok-add.ensures
+    c.in_ok-add.ensures

@@ -3,22 +3,22 @@ use Rattle.playlist.proofs.Looking.{count_yes, count_no, count_end}
 use Rattle.playlist.proofs.reading.lookups.count_streams.Goals as goal
 
 pub loop-entry-preserved : goal.loop-entry-preserved
-loop-entry-preserved c = elim c.if-is-same.branch [
-  | goal.then-is-same w ↦ (
+loop-entry-preserved c = elim c.if-is_same.branch [
+  | goal.then-is_same w ↦ (
     omega (
       arith,
       c.loop-entry.invariant.0,
       w.count_is,
-      count_yes c.args.text.now c.args.name.now c.args.index.now c.loop-entry.entry-index _ c.loop-entry-test.true (sym w.if-is-same.ensures),
+      count_yes c.args.text.now c.args.name.now c.args.index.now c.loop-entry.entry-index _ c.loop-entry-test.true (sym w.if-is_same.ensures),
     ),
     omega (arith, c.loop-entry.invariant.1, w.count_is),
   )
-  | goal.else-is-same w ↦ (
+  | goal.else-is_same w ↦ (
     omega (
       arith,
       c.loop-entry.invariant.0,
       w.count_is,
-      count_no c.args.text.now c.args.name.now c.args.index.now c.loop-entry.entry-index _ c.loop-entry-test.true (sym w.if-is-same.ensures),
+      count_no c.args.text.now c.args.name.now c.args.index.now c.loop-entry.entry-index _ c.loop-entry-test.true (sym w.if-is_same.ensures),
     ),
     omega (arith, c.loop-entry.invariant.1, w.count_is),
   )

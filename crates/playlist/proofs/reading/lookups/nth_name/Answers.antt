@@ -6,4 +6,4 @@ pub returns-then-number-order : goal.returns-then-number-order
 returns-then-number-order c = nth_none (name_in c.args.text.now) c.args.order.now c.args.number c.if-number-order.true
 
 pub returns : goal.returns
-returns c = nth_some (name_in c.args.text.now) c.args.order.now c.args.number _ c.name-at.result.now c.if-number-order.false c.name-at.ensures
+returns c = nth_some (name_in c.args.text.now) c.args.order.now c.args.number _ c.name_at.result.now c.if-number-order.false c.name_at.ensures

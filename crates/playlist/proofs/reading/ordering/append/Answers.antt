@@ -5,5 +5,5 @@ use Rattle.playlist.proofs.reading.ordering.append.Goals as goal
 
 pub returns : goal.returns
 returns c =
-    ap (map (name_in c.args.text.now)) c.in-ok-push.ensures.items
+    ap (map (name_in c.args.text.now)) c.in_ok-push.ensures.items
     ∙ map-append (name_in c.args.text.now) (vec_items c.args.order.now) (c.args.id ∷ [])

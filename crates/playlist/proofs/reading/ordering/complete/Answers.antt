@@ -12,7 +12,7 @@ pub loop-entry-preserved : goal.loop-entry-preserved
 loop-entry-preserved c =
     c.loop-entry.invariant
     ∙ at_drop_more (ordered c.args.text.now (map (name_in c.args.text.now) (vec_items c.loop-entry.order))) c.args.index.now c.loop-entry.entry-index _ c.loop-entry-test.true
-    ∙ ap (λ (ids : List (List ℕ)). ordered c.args.text.now ids (drop (c.loop-entry.entry-index + 1) c.args.index.now)) (sym c.in-ok-join.ensures)
+    ∙ ap (λ (ids : List (List ℕ)). ordered c.args.text.now ids (drop (c.loop-entry.entry-index + 1) c.args.index.now)) (sym c.in_ok-join.ensures)
 
 pub returns : goal.returns
 returns c =

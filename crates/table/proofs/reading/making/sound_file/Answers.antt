@@ -15,6 +15,6 @@ returns-in-Ok c =
 pub returns-in-Err : goal.returns-in-Err
 returns-in-Err c =
     record {
-      is = c.example-file.ensures ∙ sym (cond-false _ c.args.file.now example (sym (ap is_ok c.in-Err.ensures.value)));
-      sound = ap (λ (l : List ℕ). is_ok (checked l)) c.example-file.ensures;
+      is = c.example_file.ensures ∙ sym (cond-false _ c.args.file.now example (sym (ap is_ok c.in-Err.ensures.value)));
+      sound = ap (λ (l : List ℕ). is_ok (checked l)) c.example_file.ensures;
     }

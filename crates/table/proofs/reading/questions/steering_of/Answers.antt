@@ -5,4 +5,4 @@ use Rattle.table.proofs.reading.questions.steering_of.Goals as goal
 
 pub returns : goal.returns
 returns c =
-    c.without-fragment.ensures ∙ ap without_fragment c.body-of.ensures ∙ sym (ap (steering_in c.args.file.now) c.entry-at.ensures.step)
+    c.without_fragment.ensures ∙ ap without_fragment c.body_of.ensures ∙ sym (ap (steering_in c.args.file.now) c.entry_at.ensures.step)
