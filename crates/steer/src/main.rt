@@ -10,6 +10,7 @@ use crate::command::{Command, USAGE, parse, words};
 use crate::failure::Failure;
 use crate::reading::read;
 use crate::show::show;
+use std::process::ExitCode;
 use table::check::check;
 use table::reading::ServiceTable;
 
@@ -26,10 +27,12 @@ fn run(rt: &HostRuntime) -> Result<(), Failure> {
     }
 }
 
-fn main(rt: HostRuntime) -> Result<(), Failure> {
-    let result = run(&rt);
-    if let Err(failure) = &result {
-        let _ = failure.tell(&rt);
+fn main(rt: HostRuntime) -> ExitCode {
+    match run(&rt) {
+        Ok(()) => ExitCode::SUCCESS,
+        Err(failure) => {
+            let _ = failure.tell(&rt);
+            ExitCode::FAILURE
+        }
     }
-    result
 }
