@@ -53,7 +53,7 @@ fn check_length(text: &[u8]) -> Result<(), Fault>
 fn is_mark(line: &[u8]) -> bool
     ensures { result ≡ bytes_eq line.now (codes "#EXTM3U") }
 {
-    line == b"#EXTM3U"
+    line == b"#EXTM3U".as_slice()
 }
 
 // Whether the first line is `#EXTM3U`.

@@ -1,6 +1,6 @@
 -- What is looked up in the index is what the meaning says. Assumes nothing.
 use Rattle.std.proofs.Common.{◌≡◌, ℕ, zero, suc, ◌<◌, ◌≤◌, Bool, true, false, cond, ltb, List, [], ◌∷◌, length, get_or, drop, is_some, Some, None, Option, sym, refl, ap, ◌∙◌, subst, ⊎_elim, arith}
-use Rattle.std.specs.List.{AllByRecursion as All}
+use Rattle.std.specs.List.{AllByRecursion}
 use Rattle.std.specs.Str.{bytes_eq}
 use Rattle.std.proofs.lemmas.List.{length-map}
 use Rattle.std.proofs.lemmas.Bool.{cond-true, cond-false, lt-ltb, le-ltb, ltb-true, ltb-false, cases_Bool, false≢true}
@@ -89,19 +89,19 @@ module _ (own id : List ℕ) where
   member-first x xs zero e later = there (resolved own x.uri) e ∙ sym (cond-true (ltb 0 (suc (length (members_of own id xs)))) (Some (target_of own x.uri)) None (lt-ltb 0 (suc (length (members_of own id xs))) (omega arith)))
   member-first x xs (suc m) e later = later m ∙ ap (λ (b : Bool). cond b (Some (get_or (members_of own id xs) m [])) None) (sym (ltb_suc m (length (members_of own id xs))))
 
-  member_step : (x : Item) (xs : List Item) (m : ℕ) (b : Bool) → All (λ u. legal u ≡ true) (cond b (target_of own x.uri ∷ members_of own id xs) (members_of own id xs))
-      → (All (λ u. legal u ≡ true) (members_of own id xs) → (k : ℕ) → target_for own (uri_in id k xs) ≡ member_in (members_of own id xs) k)
+  member_step : (x : Item) (xs : List Item) (m : ℕ) (b : Bool) → AllByRecursion (λ u. legal u ≡ true) (cond b (target_of own x.uri ∷ members_of own id xs) (members_of own id xs))
+      → (AllByRecursion (λ u. legal u ≡ true) (members_of own id xs) → (k : ℕ) → target_for own (uri_in id k xs) ≡ member_in (members_of own id xs) k)
       → target_for own (cond b (step_to m x.uri (λ k. uri_in id k xs)) (uri_in id m xs)) ≡ member_in (cond b (target_of own x.uri ∷ members_of own id xs) (members_of own id xs)) m
   member_step x xs m true good later = member-first x xs m good.0 (later good.1)
   member_step x xs m false good later = later good m
 
-  member_is : (items : List Item) → All (λ u. legal u ≡ true) (members_of own id items) → (m : ℕ) → target_for own (uri_in id m items) ≡ member_in (members_of own id items) m
+  member_is : (items : List Item) → AllByRecursion (λ u. legal u ≡ true) (members_of own id items) → (m : ℕ) → target_for own (uri_in id m items) ≡ member_in (members_of own id items) m
   member_is [] good m = sym (cond-false (ltb m 0) (Some (get_or [] m [])) None (le-ltb m 0 (omega arith)))
   member_is (x ∷ xs) good m = member_step x xs m (bytes_eq x.id id) good (λ g k. member_is xs g k)
 
 -- each pathway of the order has legal members
 abbrev Good : List ℕ → List Item → List ℕ → Type 0
-Good own items id = All (λ u. legal u ≡ true) (members_of own id items)
+Good own items id = AllByRecursion (λ u. legal u ≡ true) (members_of own id items)
 
 member_of_lem : (own : List ℕ) (items : List Item) (o : Option (List ℕ)) (m : ℕ) → ((id : List ℕ) → o ≡ Some id → Good own items id)
     → target_for own (uri_for items m o) ≡ questions.member_of (pathway_by own items o) m
@@ -109,7 +109,7 @@ member_of_lem own items None m good = refl
 member_of_lem own items (Some id) m good = member_is own id items (good id refl) m
 
 -- the pathways that a lawful order numbers have legal members
-nth_good : (own : List ℕ) (items : List Item) (order : List (List ℕ)) (n : ℕ) → All (Good own items) order → (id : List ℕ) → nth_in order n ≡ Some id → Good own items id
+nth_good : (own : List ℕ) (items : List Item) (order : List (List ℕ)) (n : ℕ) → AllByRecursion (Good own items) order → (id : List ℕ) → nth_in order n ≡ Some id → Good own items id
 nth_good own items order n good id e = ⊎_elim
     (λ inside.
     subst (Good own items) (some_inj (sym (cond-true (ltb n (length order)) (Some (get_or order n [])) None inside) ∙ e))
@@ -123,11 +123,11 @@ nth_good own items order n good id e = ⊎_elim
     none-some : {x : List ℕ} → ◌≡◌ {A = Option (List ℕ)} None (Some x) → ⊥
     none-some p = false≢true (ap is_some p)
 
-good_members : (own : List ℕ) (items : List Item) (order : List (List ℕ)) → All LawfulPathway (pathways_of own items order) → All (Good own items) order
+good_members : (own : List ℕ) (items : List Item) (order : List (List ℕ)) → AllByRecursion LawfulPathway (pathways_of own items order) → AllByRecursion (Good own items) order
 good_members own items [] good = tt
 good_members own items (id ∷ ids) good = (good.0.uris, good_members own items ids good.1)
 
-pub member_by : (own : List ℕ) (items : List Item) (order : List (List ℕ)) (n m : ℕ) → All LawfulPathway (pathways_of own items order)
+pub member_by : (own : List ℕ) (items : List Item) (order : List (List ℕ)) (n m : ℕ) → AllByRecursion LawfulPathway (pathways_of own items order)
     → target_for own (uri_for items m (nth_in order n)) ≡ questions.member_of (questions.numbered (pathways_of own items order) n) m
 member_by own items order n m good =
     member_of_lem own items (nth_in order n) m (nth_good own items order n (good_members own items order good))

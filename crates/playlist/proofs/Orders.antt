@@ -1,6 +1,6 @@
 -- The order of the pathways, and the counts that the check bounds. Assumes nothing.
 use Rattle.std.proofs.Common.{◌≡◌, ℕ, suc, ◌+◌, ◌<◌, ◌≤◌, Bool, true, false, cond, not, ◌||◌, eqb, leb, List, [], ◌∷◌, ◌++◌, map, length, None, sym, refl, ap, ◌∙◌, subst, arith}
-use Rattle.std.specs.List.{AllByRecursion as All}
+use Rattle.std.specs.List.{AllByRecursion}
 use Rattle.std.specs.Str.{bytes_eq}
 use Rattle.std.proofs.ByRecursion.{All-push, All-weaker}
 use Rattle.std.proofs.lemmas.Slice.Eq.{bytes_eq-Decides}
@@ -116,11 +116,11 @@ module _ (id : List ℕ) where
 
 -- the order keeps what holds of its IDs
 module _ (P : List ℕ → Type 0) where
-  pub all_order : (ids : List (List ℕ)) (ss : List Served) → All P ids → All (λ s. P (pathway_of s)) ss → All P (in_order ids (map item_of ss))
+  pub all_order : (ids : List (List ℕ)) (ss : List Served) → AllByRecursion P ids → AllByRecursion (λ s. P (pathway_of s)) ss → AllByRecursion P (in_order ids (map item_of ss))
   all_order ids [] h k = h
   all_order ids (s ∷ ss) h k = all_order (joining (pathway_of s) ids) ss (go (is_among (pathway_of s) ids)) k.1
     where
-      go : (b : Bool) → All P (cond b ids (ids ++ pathway_of s ∷ []))
+      go : (b : Bool) → AllByRecursion P (cond b ids (ids ++ pathway_of s ∷ []))
       go true = h
       go false = All-push P ids (pathway_of s) h k.0
 
@@ -147,7 +147,7 @@ order_grows ids (x ∷ xs) = omega (arith, order_grows (joining x.id ids) xs, go
     go false = omega (arith, length_push ids x.id)
 
 -- each stream's pathway has a stream
-pub all_own : (ss : List Served) → All (λ s. has_stream (pathway_of s) ss ≡ true) ss
+pub all_own : (ss : List Served) → AllByRecursion (λ s. has_stream (pathway_of s) ss ≡ true) ss
 all_own [] = tt
 all_own (s ∷ ss) = (
   or_left (is_of (pathway_of s) s) (has_stream (pathway_of s) ss) (itself (pathway_of s)),

@@ -1,6 +1,6 @@
 -- What the rules say of a text that keeps them. Assumes nothing.
 use Rattle.std.proofs.Common.{◌≡◌, ℕ, Bool, true, false, cond, not, ◌&&◌, ◌||◌, List, [], ◌∷◌, is_ok, Some, None, Ok, Err, Option, Result, sym, refl, ap, ◌∙◌, arith}
-use Rattle.std.specs.List.{AllByRecursion as All}
+use Rattle.std.specs.List.{AllByRecursion}
 use Rattle.std.proofs.lemmas.Bool.{false≢true, true≢false, not-false}
 use Rattle.terms.specs.Faults.{Told}
 use Rattle.uri.specs.Legal.{legal}
@@ -31,7 +31,7 @@ rule_kept : (n : ℕ) (o : Option ℕ) → is_ok (verdict n o) ≡ true → o �
 rule_kept n None e = refl
 rule_kept n (Some p) e = absurd (false≢true e)
 
-pub all_kept : (rs : List rules.Rule) → is_ok (judged rs) ≡ true → All (λ (r : rules.Rule). r.offence ≡ None) rs
+pub all_kept : (rs : List rules.Rule) → is_ok (judged rs) ≡ true → AllByRecursion (λ (r : rules.Rule). r.offence ≡ None) rs
 all_kept [] e = tt
 all_kept (r ∷ rs) e =
     let p = both_kept (verdict r.number r.offence) (judged rs) e in
@@ -81,15 +81,15 @@ pub record Good (own : List ℕ) (s : Served) : Type 0 where
 module _ (own text : List ℕ) where
   row_step : (tag r : Row) (rs : List Row) (k : Kind) → legal_id (named (id_of tag)) ≡ true
       → if_tag k (bad_id r (id_of r)) ≡ None → if_tag k (bare_id r (id_of r)) ≡ None → bad_uri own r k ≡ None
-      → ((t : Row) → legal_id (named (id_of t)) ≡ true → All (Good own) (streams_in t rs))
-      → All (Good own) (elim k [ Steering ↦ streams_in tag rs | Stream ↦ streams_in r rs | Uri ↦ record { tag = tag; uri = r } ∷ streams_in no_tag rs | Other ↦ streams_in tag rs ])
+      → ((t : Row) → legal_id (named (id_of t)) ≡ true → AllByRecursion (Good own) (streams_in t rs))
+      → AllByRecursion (Good own) (elim k [ Steering ↦ streams_in tag rs | Stream ↦ streams_in r rs | Uri ↦ record { tag = tag; uri = r } ∷ streams_in no_tag rs | Other ↦ streams_in tag rs ])
   row_step tag r rs Steering good e f u more = more tag good
   row_step tag r rs Stream good e f u more = more r (id_good r (id_of r) e f)
   row_step tag r rs Uri good e f u more = (record { id = good; uri = target_legal own r.text r.place u }, more no_tag refl)
   row_step tag r rs Other good e f u more = more tag good
 
   pub streams_good : (tag : Row) (rs : List Row) → legal_id (named (id_of tag)) ≡ true
-      → first own text IdLegal rs ≡ None → first own text IdQuoted rs ≡ None → first own text UriLegal rs ≡ None → All (Good own) (streams_in tag rs)
+      → first own text IdLegal rs ≡ None → first own text IdQuoted rs ≡ None → first own text UriLegal rs ≡ None → AllByRecursion (Good own) (streams_in tag rs)
   streams_good tag [] good e f u = tt
   streams_good tag (r ∷ rs) good e f u =
       let (e0, e1) = neither (offence own text IdLegal r rs) (first own text IdLegal rs) e in

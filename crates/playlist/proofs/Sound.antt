@@ -1,6 +1,6 @@
 -- What follows from a playlist's having passed the check. Assumes nothing.
 use Rattle.std.proofs.Common.{◌≡◌, ℕ, ◌≤◌, Bool, true, false, cond, List, [], ◌∷◌, map, length, is_ok, Some, None, Option, sym, refl, ap, ◌∙◌, subst, ⊎_elim, arith}
-use Rattle.std.specs.List.{AllByRecursion as All}
+use Rattle.std.specs.List.{AllByRecursion}
 use Rattle.std.proofs.ByRecursion.{All-map, All-weaker}
 use Rattle.std.proofs.lemmas.Slice.Eq.{bytes_eq-Decides}
 use Rattle.std.proofs.lemmas.List.{length-map}
@@ -26,23 +26,23 @@ use Rattle.playlist.proofs.Orders.{itself, some-counted, count_items, few_stream
 
 -- the pathways of good streams
 module _ (own : List ℕ) where
-  id-legal : (id : List ℕ) (ss : List Served) → All (Good own) ss → has_stream id ss ≡ true → legal_id id ≡ true
+  id-legal : (id : List ℕ) (ss : List Served) → AllByRecursion (Good own) ss → has_stream id ss ≡ true → legal_id id ≡ true
   id-legal id [] good e = absurd (false≢true e)
   id-legal id (s ∷ ss) good e = ⊎_elim
       (λ here. subst (λ (i : List ℕ). legal_id i ≡ true) ((bytes_eq-Decides (pathway_of s) id).0 here) good.0.id)
       (λ later. id-legal id ss good.1 later)
       (or_cases (is_of id s) (has_stream id ss) e)
 
-  members-legal : (id : List ℕ) (ss : List Served) → All (Good own) ss → All (λ (u : List ℕ). legal u ≡ true) (members_of own id (map item_of ss))
+  members-legal : (id : List ℕ) (ss : List Served) → AllByRecursion (Good own) ss → AllByRecursion (λ (u : List ℕ). legal u ≡ true) (members_of own id (map item_of ss))
   members-legal id [] good = tt
   members-legal id (s ∷ ss) good = go (is_of id s) (members-legal id ss good.1)
     where
-      go : (b : Bool) → All (λ (u : List ℕ). legal u ≡ true) (members_of own id (map item_of ss))
-          → All (λ (u : List ℕ). legal u ≡ true) (cond b (target_of own s.uri.text ∷ members_of own id (map item_of ss)) (members_of own id (map item_of ss)))
+      go : (b : Bool) → AllByRecursion (λ (u : List ℕ). legal u ≡ true) (members_of own id (map item_of ss))
+          → AllByRecursion (λ (u : List ℕ). legal u ≡ true) (cond b (target_of own s.uri.text ∷ members_of own id (map item_of ss)) (members_of own id (map item_of ss)))
       go true more = (good.0.uri, more)
       go false more = more
 
-  pathway_lawful : (ss : List Served) → overrun 0 [] ss ≡ None → All (Good own) ss → (id : List ℕ) → has_stream id ss ≡ true → LawfulPathway (pathway_for own (map item_of ss) id)
+  pathway_lawful : (ss : List Served) → overrun 0 [] ss ≡ None → AllByRecursion (Good own) ss → (id : List ℕ) → has_stream id ss ≡ true → LawfulPathway (pathway_for own (map item_of ss) id)
   pathway_lawful ss counted good id e =
       let long : length (members_of own id (map item_of ss)) ≡ count_of id ss = count_is own id (map item_of ss) ∙ count_items id ss in
       record {
@@ -57,7 +57,7 @@ ids_of own ss [] = refl
 ids_of own ss (x ∷ xs) = ap (λ (l : List (List ℕ)). x ∷ l) (ids_of own ss xs)
 
 -- an order that begins with a pathway of a stream
-module _ (own sid : List ℕ) (ss : List Served) (counted : overrun 0 [] ss ≡ None) (good : All (Good own) ss) (has : has_stream sid ss ≡ true) where
+module _ (own sid : List ℕ) (ss : List Served) (counted : overrun 0 [] ss ≡ None) (good : AllByRecursion (Good own) ss) (has : has_stream sid ss ≡ true) where
   abbrev order : List (List ℕ)
   order = in_order (sid ∷ []) (map item_of ss)
 
@@ -93,10 +93,10 @@ module _ (own text : List ℕ) (sound : is_ok (checked own text) ≡ true) where
       both_kept (judged (form own text)) (judged (sense own text))
       (both_kept (judged (outer own text)) (and_then (judged (form own text)) (judged (sense own text))) sound).1
 
-  form-kept : All (λ (r : Rule). r.offence ≡ None) (form own text)
+  form-kept : AllByRecursion (λ (r : Rule). r.offence ≡ None) (form own text)
   form-kept = all_kept (form own text) halves.0
 
-  sense-kept : All (λ (r : Rule). r.offence ≡ None) (sense own text)
+  sense-kept : AllByRecursion (λ (r : Rule). r.offence ≡ None) (sense own text)
   sense-kept = all_kept (sense own text) halves.1
 
   steering-kept : bad_steering (length text) false (rows_of text) ≡ None
@@ -108,7 +108,7 @@ module _ (own text : List ℕ) (sound : is_ok (checked own text) ≡ true) where
   uris-kept : first own text UriLegal (rows_of text) ≡ None
   uris-kept = sense-kept.1.1.0
 
-  good : All (Good own) (streams_of text)
+  good : AllByRecursion (Good own) (streams_of text)
   good = streams_good own text no_tag (rows_of text) refl sense-kept.0 sense-kept.1.0 uris-kept
 
   known : is_known (streams_of text) (id_of (steering_of text)) ≡ true

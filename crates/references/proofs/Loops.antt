@@ -2,7 +2,7 @@
 use Rattle.std.proofs.Common.{◌≡◌, ℕ, Bool, true, false, cond, eqb, List, [], ◌∷◌, ◌++◌, length, codes, sym, refl, ap, ◌∙◌, subst, arith}
 use Rattle.std.proofs.lemmas.Slice.Eq.{bytes_eq-Decides}
 use Rattle.std.proofs.lemmas.Bool.{le-ltb, both_ways, false≢true}
-use Rattle.std.specs.List.{AllByRecursion as All}
+use Rattle.std.specs.List.{AllByRecursion}
 use Rattle.std.specs.Str.{bytes_eq}
 use Rattle.uri.specs.Cuts.{place, parts, led, joined_by}
 use Rattle.uri.proofs.Free.{Free, place_free}
@@ -38,7 +38,7 @@ given_rooted (Loop.here {rest} {out} l) a = given_rooted l refl ∙ ap (λ (xs :
 given_rooted (Loop.here_last l) a = given_rooted l refl
 given_rooted (Loop.above {rest} {out} l) a = given_rooted l refl ∙ ap (λ (xs : List ℕ). walked xs (parts 47 rest)) (sym (ending-parts (parent out) rest))
 given_rooted (Loop.above_last l) a = given_rooted l refl
-given_rooted (Loop.Only-here l) a = absurd (false≢true a)
+given_rooted (Loop.only_here l) a = absurd (false≢true a)
 given_rooted (Loop.only_above l) a = absurd (false≢true a)
 given_rooted (Loop.move {s} {rest} {out} f n b l) a =
     given_rooted l b
@@ -58,7 +58,7 @@ given (Loop.here l) e = by_walk (Loop.here l) refl e
 given (Loop.here_last l) e = by_walk (Loop.here_last l) refl e
 given (Loop.above l) e = by_walk (Loop.above l) refl e
 given (Loop.above_last l) e = by_walk (Loop.above_last l) refl e
-given (Loop.Only-here l) e = given l e
+given (Loop.only_here l) e = given l e
 given (Loop.only_above l) e = given l e
 given (Loop.move f n b l) e = by_walk (Loop.move f n b l) refl e
 given (Loop.move_first {x} {s} {rest} {out} f n b l) e =
@@ -112,7 +112,7 @@ loop_step s ss Here e f out later = subst (λ (p : List ℕ). Loop (47 ∷ (p ++
 loop_step s ss Above e f out later = subst (λ (p : List ℕ). Loop (47 ∷ (p ++ led 47 ss)) out (walked (ending (parent out) ss) ss)) (sym (above_is s e)) (loop_above ss out later)
 loop_step s ss Plain e f out later = Loop.move (place_free f) (named_from s e) (led_absolute ss) (later (out ++ 47 ∷ s))
 
-loop_led : (ss : List (List ℕ)) → All (Free 47) ss → Later ss
+loop_led : (ss : List (List ℕ)) → AllByRecursion (Free 47) ss → Later ss
 loop_led [] h out = Loop.returned
 loop_led (s ∷ ss) h out = loop_step s ss (segment_of s) refl h.0 out (loop_led ss h.1)
 
@@ -121,7 +121,7 @@ abbrev First : List (List ℕ) → Type 0
 First ss = Loop (joined_by 47 ss) [] (opening ss)
 
 front_here : (ss : List (List ℕ)) → First ss → Loop (46 ∷ led 47 ss) [] (opening ss)
-front_here [] first = Loop.Only-here Loop.returned
+front_here [] first = Loop.only_here Loop.returned
 front_here (s ∷ ss) first = Loop.front_here first
 
 front_above : (ss : List (List ℕ)) → First ss → Loop (46 ∷ 46 ∷ led 47 ss) [] (opening ss)
@@ -137,7 +137,7 @@ front_step s ss Here e f later first = subst (λ (p : List ℕ). Loop (p ++ led 
 front_step s ss Above e f later first = subst (λ (p : List ℕ). Loop (p ++ led 47 ss) [] (opening ss)) (sym (above_is s e)) (front_above ss first)
 front_step s ss Plain e f later first = front_plain s ss e f later
 
-loop_joined : (ss : List (List ℕ)) → All (Free 47) ss → First ss
+loop_joined : (ss : List (List ℕ)) → AllByRecursion (Free 47) ss → First ss
 loop_joined [] h = Loop.returned
 loop_joined (s ∷ ss) h = front_step s ss (segment_of s) refl h.0 (loop_led ss h.1) (loop_joined ss h.1)
 

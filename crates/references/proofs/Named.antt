@@ -4,7 +4,7 @@ use Rattle.std.proofs.ByRecursion.{All-push}
 use Rattle.std.proofs.lemmas.Slice.Eq.{bytes_eq-Decides}
 use Rattle.std.proofs.lemmas.List.{take_at}
 use Rattle.std.proofs.lemmas.Bool.{cond-false, eqb-true, cases_Bool}
-use Rattle.std.specs.List.{AllByRecursion as All}
+use Rattle.std.specs.List.{AllByRecursion}
 use Rattle.std.specs.Str.{bytes_eq}
 use Rattle.uri.specs.Cuts.{before, behind, onto, parts, further, led, joined_by}
 use Rattle.uri.proofs.Free.{Free, free_join, before_of_free, behind_of_free}
@@ -48,21 +48,21 @@ moved_walk s ss Here e f w = ending_walk ss w
 moved_walk s ss Above e f w = ending_walk ss (parent_walk w)
 moved_walk s ss Plain e f w = Walk.down w f e
 
-walked_walk : (ss : List (List ℕ)) {out : List ℕ} → All (Free 47) ss → Walk out → Walk (walked out ss)
+walked_walk : (ss : List (List ℕ)) {out : List ℕ} → AllByRecursion (Free 47) ss → Walk out → Walk (walked out ss)
 walked_walk [] h w = w
 walked_walk (s ∷ ss) h w = walked_walk ss h.1 (moved_walk s ss (segment_of s) refl h.0 w)
 
 -- the parts of a text that is cut at each b hold no b
-onto_free : (b x : ℕ) (t : Bool) → eqb x b ≡ t → (ps : List (List ℕ)) → All (Free b) ps → All (Free b) (onto x t ps)
+onto_free : (b x : ℕ) (t : Bool) → eqb x b ≡ t → (ps : List (List ℕ)) → AllByRecursion (Free b) ps → AllByRecursion (Free b) (onto x t ps)
 onto_free b x true e ps h = (Free.none, h)
 onto_free b x false e [] h = (Free.more e Free.none, tt)
 onto_free b x false e (p ∷ ps) h = (Free.more e h.0, h.1)
 
-pub parts_free : (b : ℕ) (text : List ℕ) → All (Free b) (parts b text)
+pub parts_free : (b : ℕ) (text : List ℕ) → AllByRecursion (Free b) (parts b text)
 parts_free b [] = (Free.none, tt)
 parts_free b (x ∷ xs) = onto_free b x (eqb x b) refl (parts b xs) (parts_free b xs)
 
-pub ahead_free : (text : List ℕ) → All (Free 47) (ahead text)
+pub ahead_free : (text : List ℕ) → AllByRecursion (Free 47) (ahead text)
 ahead_free [] = tt
 ahead_free (x ∷ xs) = parts_free 47 xs
 
@@ -105,7 +105,7 @@ named_from s e = (λ is. here≢plain (ap segment_of (sym is) ∙ e), λ is. abo
 
 pub walk_named : {out : List ℕ} → Walk out → NoDots out
 walk_named Walk.root = (named_from [] refl, tt)
-walk_named (Walk.down {out} {s} w f e) = subst (All Named) (sym (parts_down 47 out f)) (All-push Named (parts 47 out) s (walk_named w) (named_from s e))
+walk_named (Walk.down {out} {s} w f e) = subst (AllByRecursion Named) (sym (parts_down 47 out f)) (All-push Named (parts 47 out) s (walk_named w) (named_from s e))
 
 -- the other way round: a path without dot segments
 other : (xs ys : List ℕ) → (xs ≡ ys → ⊥) → bytes_eq xs ys ≡ false
@@ -114,7 +114,7 @@ other xs ys off = ⊎_elim (λ e. absurd (off ((bytes_eq-Decides xs ys).0 e))) (
 pub plain_from : (s : List ℕ) → Named s → segment_of s ≡ Plain
 plain_from s n = sym (plain_is s (other s (codes ".") n.0) (other s (codes "..") n.1))
 
-walked-plain : (out : List ℕ) (ss : List (List ℕ)) → All Named ss → walked out ss ≡ out ++ led 47 ss
+walked-plain : (out : List ℕ) (ss : List (List ℕ)) → AllByRecursion Named ss → walked out ss ≡ out ++ led 47 ss
 walked-plain out [] n = sym (append-nil out)
 walked-plain out (s ∷ ss) n =
     ap (λ (kind : Segment). walked (moved kind out s ss) ss) (plain_from s n.0) ∙ walked-plain (out ++ 47 ∷ s) ss n.1 ∙ append_assoc out (47 ∷ s) (led 47 ss)
@@ -139,7 +139,7 @@ led-parts b text =
 pub without_same : (path : List ℕ) → Absolute path → NoDots path → without_dots path ≡ path
 without_same [] a n = refl
 without_same (x ∷ xs) a n =
-    let names : All Named ([] ∷ parts 47 xs) = subst (λ (t : Bool). All Named (onto x t (parts 47 xs))) a n in
+    let names : AllByRecursion Named ([] ∷ parts 47 xs) = subst (λ (t : Bool). AllByRecursion Named (onto x t (parts 47 xs))) a n in
     sym (walked-first (x ∷ xs) a) ∙ walked-plain [] (parts 47 xs) names.1 ∙ led-parts 47 xs ∙ ap (λ (y : ℕ). y ∷ xs) (sym (eqb-true x 47 a))
 
 -- a byte other than `/` that a path does not hold
@@ -154,16 +154,16 @@ module _ (b : ℕ) (off : eqb 47 b ≡ false) where
   free_drop (suc n) Free.none = Free.none
   free_drop (suc n) (Free.more e f) = free_drop n f
 
-  onto_keeps : (x : ℕ) (t : Bool) → eqb x b ≡ false → (ps : List (List ℕ)) → All (Free b) ps → All (Free b) (onto x t ps)
+  onto_keeps : (x : ℕ) (t : Bool) → eqb x b ≡ false → (ps : List (List ℕ)) → AllByRecursion (Free b) ps → AllByRecursion (Free b) (onto x t ps)
   onto_keeps x true e ps h = (Free.none, h)
   onto_keeps x false e [] h = (Free.more e Free.none, tt)
   onto_keeps x false e (p ∷ ps) h = (Free.more e h.0, h.1)
 
-  parts_keep : {text : List ℕ} → Free b text → All (Free b) (parts 47 text)
+  parts_keep : {text : List ℕ} → Free b text → AllByRecursion (Free b) (parts 47 text)
   parts_keep Free.none = (Free.none, tt)
   parts_keep (Free.more {x} {xs} e f) = onto_keeps x (eqb x 47) e (parts 47 xs) (parts_keep f)
 
-  ahead_keeps : {text : List ℕ} → Free b text → All (Free b) (ahead text)
+  ahead_keeps : {text : List ℕ} → Free b text → AllByRecursion (Free b) (ahead text)
   ahead_keeps Free.none = tt
   ahead_keeps (Free.more e f) = parts_keep f
 
@@ -180,7 +180,7 @@ module _ (b : ℕ) (off : eqb 47 b ≡ false) where
   moved_keeps Above ss {out} f g = ending_keeps ss (up_keeps (last_slash out) f)
   moved_keeps Plain ss f g = free_join f (Free.more off g)
 
-  walked_keeps : (ss : List (List ℕ)) {out : List ℕ} → All (Free b) ss → Free b out → Free b (walked out ss)
+  walked_keeps : (ss : List (List ℕ)) {out : List ℕ} → AllByRecursion (Free b) ss → Free b out → Free b (walked out ss)
   walked_keeps [] h f = f
   walked_keeps (s ∷ ss) h f = walked_keeps ss h.1 (moved_keeps (segment_of s) ss f h.0)
 

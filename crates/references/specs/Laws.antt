@@ -1,6 +1,6 @@
 -- What holds of every answer, in the words of those who use it. Assumes nothing.
 use Rattle.std.specs.Prelude.{◌≡◌, ℕ, true, ◌⊎◌, List, [], Some, None, codes, Option, ◌≢◌}
-use Rattle.std.specs.List.{AllByRecursion as All}
+use Rattle.std.specs.List.{AllByRecursion}
 use Rattle.uri.specs.Cuts.{parts}
 use Rattle.uri.specs.Splits.{split}
 use Rattle.uri.specs.Legal.{legal}
@@ -16,7 +16,7 @@ Named s = (s ≢ codes ".") × (s ≢ codes "..")
 
 -- no segment of the path is a dot segment
 abbrev pub NoDots : List ℕ → Type 0
-NoDots path = All Named (parts 47 path)
+NoDots path = AllByRecursion Named (parts 47 path)
 
 -- a reference to the base's own path: it has no scheme, no authority and no path
 abbrev pub SamePath : List ℕ → Type 0

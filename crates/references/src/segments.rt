@@ -7,10 +7,10 @@ use crate::segment::Segment;
 pub(crate) fn segment_of(text: &[u8]) -> Segment
     ensures { result ≡ segment_of text.now }
 {
-    if text == b"." {
+    if text == b".".as_slice() {
         return Segment::Here;
     }
-    if text == b".." {
+    if text == b"..".as_slice() {
         return Segment::Above;
     }
     Segment::Plain

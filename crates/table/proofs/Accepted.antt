@@ -1,6 +1,6 @@
 -- A service table passes the check. Assumes nothing.
 use Rattle.std.proofs.Common.{◌≡◌, ℕ, ◌+◌, ◌≤◌, true, cond, ◌||◌, eqb, ltb, List, [], ◌∷◌, ◌++◌, length, drop, is_ok, Some, None, Option, sym, refl, ap, ◌∙◌, subst, arith}
-use Rattle.std.specs.List.{AllByRecursion as All}
+use Rattle.std.specs.List.{AllByRecursion}
 use Rattle.std.proofs.ByRecursion.{All-append}
 use Rattle.std.proofs.lemmas.Bool.{cond-false, ne_eqb, le-ltb, or_from}
 use Rattle.uri.specs.Legal.{legal}
@@ -19,7 +19,7 @@ use Rattle.table.proofs.Inverse.{described_read}
 use Rattle.table.proofs.Rules.{none-misplaced, ends_at, none-overlong, Sane, sane_items, none_unknown, none_bad_id, none_bad_uri, items_ordered, pathways-counted}
 use Rattle.table.proofs.Apart.{none-repeated, all_new}
 
-rules_kept : (rs : List Rule) → All (λ (r : Rule). r.offence ≡ None) rs → is_ok (judged rs) ≡ true
+rules_kept : (rs : List Rule) → AllByRecursion (λ (r : Rule). r.offence ≡ None) rs → is_ok (judged rs) ≡ true
 rules_kept [] h = refl
 rules_kept (r ∷ rs) h = ap (λ (o : Option ℕ). is_ok (and_then (verdict r.number o) (judged rs))) h.0 ∙ rules_kept rs h.1
 
@@ -63,13 +63,13 @@ module _ (file : List ℕ) (s : List ℕ) (ps : List Pathway) (at : ℕ) (uri : 
       let end : end_of (spot (count_of file)) (contents file) ≡ length file = ap (λ (n : ℕ). end_of n (contents file)) (sym start) ∙ ap (end_of at) es ∙ ends_at at xs ∙ sym long in
       not_longer (end_of (spot (count_of file)) (contents file)) (length file) 4 (omega (arith, end))
 
-  layout-kept : All (λ (r : Rule). r.offence ≡ None) (layout file)
+  layout-kept : AllByRecursion (λ (r : Rule). r.offence ≡ None) (layout file)
   layout-kept = (length_right, (header, (count_there, (contents_there, (places_right, (bodies_there, (end_right, tt)))))))
 
   pathways_are : pathways_in file (contents file) ≡ ps
   pathways_are = ap (pathways_in file) es ∙ described_read file s ps at here
 
-  sane : All Sane xs
+  sane : AllByRecursion Sane xs
   sane = sane_items s ps uri lawful.each
 
   kinds_right : unknown_kind 0 (contents file) ≡ None
@@ -96,7 +96,7 @@ module _ (file : List ℕ) (s : List ℕ) (ps : List Pathway) (at : ℕ) (uri : 
       ∙ ap (overrun 0 0 0) es
       ∙ pathways-counted ps 0 lawful.each (omega arith) 0 1 (at + length s)
 
-  sense-kept : All (λ (r : Rule). r.offence ≡ None) (sense file)
+  sense-kept : AllByRecursion (λ (r : Rule). r.offence ≡ None) (sense file)
   sense-kept = (kinds_right, (order_right, (ids_right, (repeats_right, (uris_right, (counts_right, tt))))))
 
   fits_format : is_ok (checked file) ≡ true

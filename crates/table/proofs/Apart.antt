@@ -1,6 +1,6 @@
 -- Where the IDs differ, none is repeated. Assumes nothing.
 use Rattle.std.proofs.Common.{◌≡◌, ℕ, Bool, true, false, cond, ◌&&◌, List, [], ◌∷◌, ◌++◌, Some, None, refl, ◌∙◌}
-use Rattle.std.specs.List.{AllByRecursion as All}
+use Rattle.std.specs.List.{AllByRecursion}
 use Rattle.std.specs.Str.{bytes_eq}
 use Rattle.std.proofs.lemmas.Slice.Eq.{bytes_eq-Decides}
 use Rattle.std.proofs.lemmas.Bool.{cond-false, or_from, and_left, and_right}
@@ -20,21 +20,21 @@ not_same x y h = go (bytes_eq x y) (bytes_eq-Decides x y).0
 
 module _ (file : List ℕ) where
   abbrev New : List Entry → List (List ℕ) → Type 0
-  New before xs = All (λ (x : List ℕ). has_id file x before ≡ false) xs
+  New before xs = AllByRecursion (λ (x : List ℕ). has_id file x before ≡ false) xs
 
   -- one entry more that is none of the IDs
   still_new : (before : List Entry) (e : Entry) (xs : List (List ℕ)) → New before xs
-      → All (λ (x : List ℕ). (is_id e.kind && bytes_eq (body_of file e) x) ≡ false) xs → New (before ++ e ∷ []) xs
+      → AllByRecursion (λ (x : List ℕ). (is_id e.kind && bytes_eq (body_of file e) x) ≡ false) xs → New (before ++ e ∷ []) xs
   still_new before e [] h k = tt
   still_new before e (x ∷ xs) h k =
       let first = has_append file x before e ∙ or_from (has_id file x before) (is_id e.kind && bytes_eq (body_of file e) x) h.0 k.0 in
       (first, still_new before e xs h.1 k.1)
 
-  no_id : (e : Entry) (xs : List (List ℕ)) → is_id e.kind ≡ false → All (λ (x : List ℕ). (is_id e.kind && bytes_eq (body_of file e) x) ≡ false) xs
+  no_id : (e : Entry) (xs : List (List ℕ)) → is_id e.kind ≡ false → AllByRecursion (λ (x : List ℕ). (is_id e.kind && bytes_eq (body_of file e) x) ≡ false) xs
   no_id e [] t = tt
   no_id e (x ∷ xs) t = (and_left (is_id e.kind) (bytes_eq (body_of file e) x) t, no_id e xs t)
 
-  other_id : (e : Entry) (xs : List (List ℕ)) → All (λ (x : List ℕ). body_of file e ≡ x → ⊥) xs → All (λ (x : List ℕ). (is_id e.kind && bytes_eq (body_of file e) x) ≡ false) xs
+  other_id : (e : Entry) (xs : List (List ℕ)) → AllByRecursion (λ (x : List ℕ). body_of file e ≡ x → ⊥) xs → AllByRecursion (λ (x : List ℕ). (is_id e.kind && bytes_eq (body_of file e) x) ≡ false) xs
   other_id e [] h = tt
   other_id e (x ∷ xs) h =
       (and_right (is_id e.kind) (bytes_eq (body_of file e) x) (not_same (body_of file e) x h.0), other_id e xs h.1)

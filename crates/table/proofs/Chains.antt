@@ -1,6 +1,6 @@
 -- One rule after another. Assumes nothing.
 use Rattle.std.proofs.Common.{◌≡◌, ℕ, ◌+◌, ◌≤◌, Bool, true, false, cond, leb, List, [], ◌∷◌, ◌++◌, IfOk, Some, None, Ok, Err, Option, Result, sym, refl, ap, ◌∙◌, arith}
-use Rattle.std.specs.List.{AllByRecursion as All}
+use Rattle.std.specs.List.{AllByRecursion}
 use Rattle.std.proofs.lemmas.Bool.{leb-true}
 use Rattle.terms.specs.declared.fault.Fault.{Fault}
 use Rattle.terms.specs.Faults.{Told, outcome}
@@ -43,7 +43,7 @@ pub kept : (n : ℕ) (o : Option ℕ) → Ok tt ≡ verdict n o → o ≡ None
 kept n None e = refl
 kept n (Some p) e = let z : ◌≡◌ {A = ℕ} 0 1 = cc in absurd (omega arith)
 
-pub all_within : (end i : ℕ) (es : List Entry) → overlong end i es ≡ None → All (λ (e : Entry). e.place + e.size ≤ end) es
+pub all_within : (end i : ℕ) (es : List Entry) → overlong end i es ≡ None → AllByRecursion (λ (e : Entry). e.place + e.size ≤ end) es
 all_within end i [] h = tt
 all_within end i (e ∷ es) h =
     let split = within_head (leb (e.place + e.size) end) refl h in

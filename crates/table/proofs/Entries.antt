@@ -1,6 +1,6 @@
 -- The entries of the contents, one by one. Assumes nothing.
 use Rattle.std.proofs.Common.{◌≡◌, ℕ, zero, suc, ◌+◌, ◌*◌, ◌<◌, ◌≤◌, List, [], ◌∷◌, ◌++◌, length, get_or, take, drop, sym, refl, ap, ◌∙◌, subst, le_of_suc-le-suc, arith}
-use Rattle.std.specs.List.{AllByRecursion as All}
+use Rattle.std.specs.List.{AllByRecursion}
 use Rattle.std.proofs.ByRecursion.{All-drop}
 use Rattle.std.proofs.lemmas.List.{drop_more, drop-drop, drop_all, get_or-drop, get_or-take, length-drop, length-take, take_more}
 use Rattle.table.specs.declared.kind.Kind.{Kind}
@@ -54,7 +54,7 @@ module _ (file : List ℕ) (i : ℕ) where
 -- an entry's body lies in the file, where each does
 pub body-within : (file : List ℕ) (i : ℕ) (e : Entry) (rest : List Entry) → drop i (contents file) ≡ e ∷ rest → Within file → e.place + e.size ≤ length file
 body-within file i e rest step within =
-    (subst (All (λ (x : Entry). x.place + x.size ≤ length file)) step (All-drop (λ (x : Entry). x.place + x.size ≤ length file) i (contents file) within)).0
+    (subst (AllByRecursion (λ (x : Entry). x.place + x.size ≤ length file)) step (All-drop (λ (x : Entry). x.place + x.size ≤ length file) i (contents file) within)).0
 
 module _ (es rest : List Entry) (i : ℕ) (e : Entry) (step : drop i es ≡ e ∷ rest) where
   there : i < length es

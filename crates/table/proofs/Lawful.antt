@@ -1,6 +1,6 @@
 -- A file that passes the check describes what keeps the limits. Assumes nothing.
 use Rattle.std.proofs.Common.{◌≡◌, ℕ, ◌+◌, ◌<◌, ◌≤◌, Bool, true, false, cond, not, ◌&&◌, ◌||◌, eqb, ltb, leb, List, [], ◌∷◌, ◌++◌, length, is_ok, Some, None, Option, sym, refl, ap, ◌∙◌, subst, arith}
-use Rattle.std.specs.List.{AllByRecursion as All}
+use Rattle.std.specs.List.{AllByRecursion}
 use Rattle.std.specs.Str.{bytes_eq}
 use Rattle.std.proofs.ByRecursion.{All-weaker}
 use Rattle.std.proofs.lemmas.Slice.Eq.{bytes_eq-Decides}
@@ -108,15 +108,15 @@ module _ (file : List ℕ) where
           let is : ids_now ids e.kind ≡ ids = cond-false (is_id e.kind) (ids + 1) ids t in
           omega (arith, more (omega (arith, is)), is)
 
-  uris-legal : (es : List Entry) → bad_uri file es ≡ None → All (λ (u : List ℕ). legal u ≡ true) (members_in file es)
+  uris-legal : (es : List Entry) → bad_uri file es ≡ None → AllByRecursion (λ (u : List ℕ). legal u ≡ true) (members_in file es)
   uris-legal [] h = tt
   uris-legal (e ∷ es) h =
       let p = none-further (not (is_id e.kind) && not (legal (body_of file e))) e.place (bad_uri file es) h in
       go (is_member e.kind) refl p.0 (uris-legal es p.1)
     where
       go : (b : Bool) → is_member e.kind ≡ b → (not (is_id e.kind) && not (legal (body_of file e))) ≡ false
-          → All (λ (u : List ℕ). legal u ≡ true) (members_in file es)
-          → All (λ (u : List ℕ). legal u ≡ true) (cond b (body_of file e ∷ members_in file es) [])
+          → AllByRecursion (λ (u : List ℕ). legal u ≡ true) (members_in file es)
+          → AllByRecursion (λ (u : List ℕ). legal u ≡ true) (cond b (body_of file e ∷ members_in file es) [])
       go true t x more = (judged_false (is_id e.kind) (legal (body_of file e)) (member_no_id e.kind t) x, more)
       go false t x more = tt
 
@@ -125,7 +125,7 @@ module _ (file : List ℕ) where
   some-members (e ∷ es) t =
       subst (λ (l : List (List ℕ)). 1 ≤ length l) (sym (cond-true (is_member e.kind) (body_of file e ∷ members_in file es) [] t)) (omega arith)
 
-  pub each-lawful : (ids members i : ℕ) (es : List Entry) → bad_id file es ≡ None → bad_uri file es ≡ None → overrun ids members i es ≡ None → All LawfulPathway (pathways_in file es)
+  pub each-lawful : (ids members i : ℕ) (es : List Entry) → bad_id file es ≡ None → bad_uri file es ≡ None → overrun ids members i es ≡ None → AllByRecursion LawfulPathway (pathways_in file es)
   each-lawful ids members i [] h u c = tt
   each-lawful ids members i (e ∷ es) h u c =
       let p = none-further (is_id e.kind && not (legal_id (body_of file e))) e.place (bad_id file es) h in
@@ -136,8 +136,8 @@ module _ (file : List ℕ) where
     where
       go : (b : Bool) → is_id e.kind ≡ b → (is_id e.kind && not (legal_id (body_of file e))) ≡ false → bad_uri file es ≡ None
           → excess ids members e.kind es ≡ false → overrun (ids_now ids e.kind) (members_now members e.kind) (i + 1) es ≡ None
-          → All LawfulPathway (pathways_in file es)
-          → All LawfulPathway (cond b (pathway_at file (e ∷ es) ∷ pathways_in file es) (pathways_in file es))
+          → AllByRecursion LawfulPathway (pathways_in file es)
+          → AllByRecursion LawfulPathway (cond b (pathway_at file (e ∷ es) ∷ pathways_in file es) (pathways_in file es))
       go true t x u' y z more =
           let none : members_now members e.kind ≡ 0 = cond-false (is_member e.kind) (members + 1) 0 (id_no_member e.kind t) in (
             record {
@@ -168,7 +168,7 @@ module _ (file : List ℕ) where
   -- IDs that stand neither among the entries before them nor twice
   pub record Fresh (before : List Entry) (xs : List (List ℕ)) : Type 0 where
     pub different : Different xs
-    pub new : All (λ (x : List ℕ). has_id file x before ≡ false) xs
+    pub new : AllByRecursion (λ (x : List ℕ). has_id file x before ≡ false) xs
 
   pub ids_fresh : (before es : List Entry) → repeated file before es ≡ None → Fresh before (ids (pathways_in file es))
   ids_fresh before [] h = record { different = tt; new = tt }
@@ -222,12 +222,12 @@ rule_kept : (n : ℕ) (o : Option ℕ) (rs : List Rule) → is_ok (and_then (ver
 rule_kept n None rs e = (refl, e)
 rule_kept n (Some p) rs e = absurd (false≢true e)
 
-all_kept : (rs : List Rule) → is_ok (judged rs) ≡ true → All (λ (r : Rule). r.offence ≡ None) rs
+all_kept : (rs : List Rule) → is_ok (judged rs) ≡ true → AllByRecursion (λ (r : Rule). r.offence ≡ None) rs
 all_kept [] e = tt
 all_kept (r ∷ rs) e = let p = rule_kept r.number r.offence rs e in (p.0, all_kept rs p.1)
 
 module _ (file : List ℕ) (sound : is_ok (checked file) ≡ true) where
-  pub kept : All (λ (r : Rule). r.offence ≡ None) (layout file ++ sense file)
+  pub kept : AllByRecursion (λ (r : Rule). r.offence ≡ None) (layout file ++ sense file)
   kept = all_kept (layout file ++ sense file) sound
 
   fits_kept : contents_long file ≡ None

@@ -1,6 +1,6 @@
 -- What is written for lawful pathways keeps each rule. Assumes nothing.
 use Rattle.std.proofs.Common.{◌≡◌, ℕ, ◌+◌, ◌≤◌, true, false, not, ◌&&◌, ◌||◌, eqb, leb, List, [], ◌∷◌, ◌++◌, map, length, take, drop, Some, None, refl, ap, ◌∙◌, arith}
-use Rattle.std.specs.List.{flat_map, AllByRecursion as All}
+use Rattle.std.specs.List.{flat_map, AllByRecursion}
 use Rattle.std.proofs.ByRecursion.{All-append, All-map, All-weaker}
 use Rattle.std.proofs.lemmas.List.{length-append}
 use Rattle.std.proofs.lemmas.Bool.{cond-true, cond-false, eq-eqb, le-leb, lt-leb, or_from, not_from_true}
@@ -42,24 +42,24 @@ pub record Sane (x : Item) : Type 0 where
 sane_member : (u : List ℕ) → legal u ≡ true → Sane (member u)
 sane_member u h = record { known = refl; id = refl; uri = not_from_true (legal u) h }
 
-sane_pathways : (ps : List Pathway) → All LawfulPathway ps → All Sane (flat_map items_of ps)
+sane_pathways : (ps : List Pathway) → AllByRecursion LawfulPathway ps → AllByRecursion Sane (flat_map items_of ps)
 sane_pathways [] h = tt
 sane_pathways (p ∷ ps) h =
     let id : Sane (named p.id) = record { known = refl; id = not_from_true (legal_id p.id) h.0.id; uri = refl } in
     let members = All-map Sane member p.members (All-weaker (λ (u : List ℕ). legal u ≡ true) (λ (u : List ℕ). Sane (member u)) sane_member p.members h.0.uris) in
     (id, All-append Sane (map member p.members) (flat_map items_of ps) members (sane_pathways ps h.1))
 
-pub sane_items : (s : List ℕ) (ps : List Pathway) → legal s ≡ true → All LawfulPathway ps → All Sane (items s ps)
+pub sane_items : (s : List ℕ) (ps : List Pathway) → legal s ≡ true → AllByRecursion LawfulPathway ps → AllByRecursion Sane (items s ps)
 sane_items s ps l h = (record { known = refl; id = refl; uri = not_from_true (legal s) l }, sane_pathways ps h)
 
-pub none_unknown : (i at : ℕ) (xs : List Item) → All Sane xs → unknown_kind i (entries_for at xs) ≡ None
+pub none_unknown : (i at : ℕ) (xs : List Item) → AllByRecursion Sane xs → unknown_kind i (entries_for at xs) ≡ None
 none_unknown i at [] h = refl
 none_unknown i at (x ∷ xs) h =
     let to = at + length x.body in
     cond-false (is_unknown x.kind) (Some (spot i)) (unknown_kind (i + 1) (entries_for to xs)) h.0.known ∙ none_unknown (i + 1) to xs h.1
 
 module _ (file : List ℕ) where
-  pub none_bad_id : (at : ℕ) (xs : List Item) → drop at file ≡ bodies xs → All Sane xs → bad_id file (entries_for at xs) ≡ None
+  pub none_bad_id : (at : ℕ) (xs : List Item) → drop at file ≡ bodies xs → AllByRecursion Sane xs → bad_id file (entries_for at xs) ≡ None
   none_bad_id at [] here h = refl
   none_bad_id at (x ∷ xs) here h =
       let to = at + length x.body in
@@ -68,7 +68,7 @@ module _ (file : List ℕ) where
       cond-false (is_id x.kind && not (legal_id (take (length x.body) (drop at file)))) (Some at) (bad_id file (entries_for to xs)) test
       ∙ none_bad_id to xs (behind file at x.body (bodies xs) here) h.1
 
-  pub none_bad_uri : (at : ℕ) (xs : List Item) → drop at file ≡ bodies xs → All Sane xs → bad_uri file (entries_for at xs) ≡ None
+  pub none_bad_uri : (at : ℕ) (xs : List Item) → drop at file ≡ bodies xs → AllByRecursion Sane xs → bad_uri file (entries_for at xs) ≡ None
   none_bad_uri at [] here h = refl
   none_bad_uri at (x ∷ xs) here h =
       let to = at + length x.body in
@@ -115,7 +115,7 @@ member-first : (us : List (List ℕ)) (xs : List Item) (at : ℕ) → 1 ≤ leng
 member-first [] xs at h = absurd (omega arith)
 member-first (u ∷ us) xs at h = refl
 
-pub pathways-counted : (ps : List Pathway) (ids : ℕ) → All LawfulPathway ps → ids + length ps ≤ 16 → Counted ids (flat_map items_of ps)
+pub pathways-counted : (ps : List Pathway) (ids : ℕ) → AllByRecursion LawfulPathway ps → ids + length ps ≤ 16 → Counted ids (flat_map items_of ps)
 pathways-counted [] ids h l members i at = refl
 pathways-counted (p ∷ ps) ids h l members i at =
     let to = at + length p.id in

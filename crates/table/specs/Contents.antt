@@ -1,6 +1,6 @@
 -- The layout of a service table: header, count, contents, bodies. Assumes nothing.
 use Rattle.std.specs.Prelude.{ℕ, zero, suc, ◌+◌, ◌*◌, ◌≤◌, Bool, true, false, cond, ◌&&◌, List, [], ◌∷◌, length, take, drop, ◌==◌, nat_le, slice_index}
-use Rattle.std.specs.List.{AllByRecursion as All}
+use Rattle.std.specs.List.{AllByRecursion}
 use Rattle.pathways.specs.declared.dialect.Dialect.{Dialect}
 use Rattle.pathways.specs.declared.dialect.Dialect.TheVariants.{Hls, Dash}
 use Rattle.table.specs.declared.kind.Kind.{Kind}
@@ -57,7 +57,7 @@ body_of file e = take e.size (drop e.place file)
 
 -- each body lies in the file
 abbrev pub Within : List ℕ → Type 0
-Within file = All (λ e. e.place + e.size ≤ length file) (contents file)
+Within file = AllByRecursion (λ e. e.place + e.size ≤ length file) (contents file)
 
 abbrev pub is_id : Kind → Bool
 is_id Steering = false

@@ -1,6 +1,6 @@
 -- The format of a service table, by what is written for a description. Assumes nothing.
 use Rattle.std.specs.Prelude.{◌≡◌, ℕ, ◌+◌, ◌*◌, ◌/◌, ◌%◌, ◌<◌, ◌≤◌, true, List, [], ◌∷◌, ◌++◌, map, length}
-use Rattle.std.specs.List.{flat_map, AllByRecursion as All}
+use Rattle.std.specs.List.{flat_map, AllByRecursion}
 use Rattle.uri.specs.Legal.{legal}
 use Rattle.uri.specs.Splits.{without_fragment}
 use Rattle.pathways.specs.declared.dialect.Dialect.{Dialect}
@@ -85,4 +85,4 @@ meant t = record { dialect = t.dialect; steering = without_fragment t.steering; 
 
 -- each number is a byte
 abbrev pub Bytes : List ℕ → Type 0
-Bytes file = All (λ b. b < 256) file
+Bytes file = AllByRecursion (λ b. b < 256) file

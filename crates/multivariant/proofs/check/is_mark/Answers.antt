@@ -1,8 +1,6 @@
-use Rattle.std.proofs.Common.{refl}
-use Rattle.std.proofs.lemmas.Slice.Eq.{slice_eq-Decides}
-use Rattle.terms.proofs.Slices.{same_slices}
+use Rattle.std.proofs.Common.{ℕ, List, ap, ◌∙◌}
+use Rattle.std.specs.Str.{bytes_eq}
 use Rattle.multivariant.proofs.check.is_mark.Goals as goal
-use Rattle.std.proofs.lemmas.Bool.Decides.{Decides-eqb}
 
 pub returns : goal.returns
-returns c = same_slices c.args.line.now _ c.args.line.now c.eq.result (slice_eq-Decides Decides-eqb _ _ c.eq.result c.eq.ensures) refl
+returns c = c.eq.ensures ∙ ap (λ (l : List ℕ). bytes_eq c.args.line.now l) c.as_slice.ensures

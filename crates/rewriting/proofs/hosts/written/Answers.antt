@@ -6,9 +6,9 @@ use Rattle.uri.specs.Views.{texts}
 use Rattle.rewriting.proofs.Written.{host-none, host-written}
 use Rattle.rewriting.proofs.hosts.written.Goals as goal
 
-pub returns-in-default : goal.returns-in-default
-returns-in-default g c =
-    host-none c.args.uri.now c.args.host.now (texts c.split-parts.result) c.split-parts.ensures g.row.N (option_map content c.new.result) (ap (option_map (λ x. x.now)) c.in-default.is) c.new.ensures
+pub returns-in_default : goal.returns-in_default
+returns-in_default g c =
+    host-none c.args.uri.now c.args.host.now (texts c.split-parts.result) c.split-parts.ensures g.row.N (option_map content c.new.result) (ap (option_map (λ x. x.now)) c.in_default.is) c.new.ensures
 
 pub returns : goal.returns
 returns g c =

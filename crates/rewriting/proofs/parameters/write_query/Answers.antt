@@ -36,12 +36,12 @@ loop-rest-preserved g c =
 
 pub returns-then-not-set : goal.returns-then-not-set
 returns-then-not-set g c =
-    end_unset c.args.name.now c.args.value.now (option_map (λ x. x.now) c.loop-rest.rest) (ap (option_map (λ x. x.now)) c.in-default.is) c.loop-rest.set g.row.N c.loop-rest.mark (drafted c.loop-rest.draft) (drafted c.write_assigned-then-not-set.new.draft) c.if-not-set.true c.write_assigned-then-not-set.ensures
+    end_unset c.args.name.now c.args.value.now (option_map (λ x. x.now) c.loop-rest.rest) (ap (option_map (λ x. x.now)) c.in_default.is) c.loop-rest.set g.row.N c.loop-rest.mark (drafted c.loop-rest.draft) (drafted c.write_assigned-then-not-set.new.draft) c.if-not-set.true c.write_assigned-then-not-set.ensures
     ∙ c.loop-rest.invariant
     ∙ ap (extended g.row.N (drafted c.args.draft.now)) (listed_query c.args.name.now c.args.value.now (pieces (option_map (λ x. x.now) c.args.query)))
 
 pub returns-else-not-set : goal.returns-else-not-set
 returns-else-not-set g c =
-    end_set c.args.name.now c.args.value.now (option_map (λ x. x.now) c.loop-rest.rest) (ap (option_map (λ x. x.now)) c.in-default.is) c.loop-rest.set c.loop-rest.mark c.loop-rest.draft c.if-not-set.false
+    end_set c.args.name.now c.args.value.now (option_map (λ x. x.now) c.loop-rest.rest) (ap (option_map (λ x. x.now)) c.in_default.is) c.loop-rest.set c.loop-rest.mark c.loop-rest.draft c.if-not-set.false
     ∙ c.loop-rest.invariant
     ∙ ap (extended g.row.N (drafted c.args.draft.now)) (listed_query c.args.name.now c.args.value.now (pieces (option_map (λ x. x.now) c.args.query)))

@@ -8,19 +8,19 @@ loop-entry-preserved c = elim c.if-is_same.branch [
     omega (
       arith,
       c.loop-entry.invariant.0,
-      w.count_is,
+      w.count-is,
       count_yes c.args.text.now c.args.name.now c.args.index.now c.loop-entry.entry-index _ c.loop-entry-test.true (sym w.if-is_same.ensures),
     ),
-    omega (arith, c.loop-entry.invariant.1, w.count_is),
+    omega (arith, c.loop-entry.invariant.1, w.count-is),
   )
   | goal.else-is_same w ↦ (
     omega (
       arith,
       c.loop-entry.invariant.0,
-      w.count_is,
+      w.count-is,
       count_no c.args.text.now c.args.name.now c.args.index.now c.loop-entry.entry-index _ c.loop-entry-test.true (sym w.if-is_same.ensures),
     ),
-    omega (arith, c.loop-entry.invariant.1, w.count_is),
+    omega (arith, c.loop-entry.invariant.1, w.count-is),
   )
 ]
 
