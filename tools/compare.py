@@ -2,8 +2,8 @@
 """Runs the built programs `uri_tests` and `description_tests` on cases made at random, and compares what they print
 with the readers of tools/steering_reference.py. Ends with status 1 at the first difference, and shows the case.
 
-The programs are built by `rt check uri_tests description_tests`. The stored files of the two crates hold such cases
-too, made from another seed.
+The programs are built by `rt run` in crates/uri_tests and in crates/description_tests. The stored files of the two
+crates hold such cases too, made from another seed.
 """
 
 import argparse
@@ -15,7 +15,7 @@ import time
 import samples
 from steering_reference import TOOLS, judged, playlist_given, told, uri_answer, uri_expected, uri_given
 
-BINARIES = TOOLS.parent / "target/bin"
+CRATES = TOOLS.parent / "crates"
 
 # So many cases go into one run of a program.
 BATCH = 500
@@ -59,7 +59,7 @@ OUTCOMES = {
 def printed(program, lines):
     """What the program prints of these cases, by name of the case, and the line at the end."""
     text = "".join(line + "\n" for line in lines).encode()
-    run = subprocess.run([BINARIES / program], input=text, capture_output=True)
+    run = subprocess.run([CRATES / program / "out" / program], input=text, capture_output=True)
     if run.returncode:
         sys.exit("%s ended with status %d: %s" % (program, run.returncode, run.stderr.decode()))
     answers, name = {}, None
@@ -127,8 +127,8 @@ def main():
     options = reader.parse_args()
     kinds = options.kind or list(KINDS)
     for program in sorted({KINDS[kind][0] for kind in kinds}):
-        if not (BINARIES / program).exists():
-            sys.exit("%s is not built: run `rt check %s`" % (BINARIES / program, program))
+        if not (CRATES / program / "out" / program).exists():
+            sys.exit("%s is not built: run `rt run` in crates/%s" % (CRATES / program / "out" / program, program))
     print("seed %d, %d cases of each kind" % (options.seed, options.cases))
     if not all(compare_kind(kind, options.cases, options.seed) for kind in kinds):
         sys.exit(1)

@@ -1,1 +1,2 @@
 pub mod ServiceTables
+pub mod Resolved

@@ -3,16 +3,19 @@ use std::env::Args;
 use std::{env, fmt, io};
 
 pub const USAGE: &str = "\
-usage: steer table FILE    print the description that the service table FILE holds
-       steer help          print this text
+usage: steer table FILE           print the description that the service table FILE holds
+       steer playlist URI FILE    print the description that the HLS playlist FILE holds, which was fetched from URI
+       steer help                 print this text
 
-A table that is refused gives one line, `refused NUMBER PLACE LAYER REASON`, and status 1.
+A table or playlist that is refused gives one line, `refused NUMBER PLACE LAYER REASON`, and status 1.
 ";
 
 #[derive(Drop)]
 pub enum Command {
     Help,
     Table(String),
+    // The playlist's own URI, and its file.
+    Playlist(String, String),
 }
 
 // Why the words are no command.
@@ -22,6 +25,8 @@ pub enum Misuse {
     NoCommand,
     UnknownCommand(String),
     NoFile,
+    NoUri,
+    NoPlaylist,
     Excess(String),
 }
 
@@ -32,6 +37,11 @@ impl fmt::Display for Misuse {
             Misuse::NoCommand => write!(f, "no command is given"),
             Misuse::UnknownCommand(word) => write!(f, "there is no command `{word}`"),
             Misuse::NoFile => write!(f, "`table` takes a file, and none is given"),
+            Misuse::NoUri => write!(f, "`playlist` takes a URI and a file, and none is given"),
+            Misuse::NoPlaylist => write!(
+                f,
+                "`playlist` takes a file behind the URI, and none is given"
+            ),
             Misuse::Excess(word) => write!(f, "the argument `{word}` is one too many"),
         }
     }
@@ -53,6 +63,10 @@ pub(crate) fn parse(mut words: Args) -> Result<Command, Misuse> {
     let command = match name.as_str() {
         "help" | "--help" | "-h" => Command::Help,
         "table" => Command::Table(words.next().ok_or(Misuse::NoFile)?),
+        "playlist" => {
+            let uri = words.next().ok_or(Misuse::NoUri)?;
+            Command::Playlist(uri, words.next().ok_or(Misuse::NoPlaylist)?)
+        }
         _ => return Err(Misuse::UnknownCommand(name)),
     };
     match words.next() {

@@ -8,7 +8,9 @@ pub enum Failure {
     Misuse(Misuse),
     Unreadable(String, io::Error),
     Fault(Fault),
-    // An answer that is no text; a checked table gives none.
+    // No memory for the index of a playlist.
+    NoMemory,
+    // An answer that is no text; a checked table or playlist gives none.
     NoText,
     Unwritten(io::Error),
 }
@@ -41,7 +43,12 @@ impl Failure {
                 "steer: cannot read `{path}`: {error}"
             ),
             Failure::Fault(fault) => println!(rt; "refused {fault}"),
-            Failure::NoText => eprintln!(rt; "steer: the table gave an answer that is no text"),
+            Failure::NoMemory => eprintln!(rt;
+                "steer: there is no memory for the index of the playlist"
+            ),
+            Failure::NoText => eprintln!(rt;
+                "steer: the description gave an answer that is no text"
+            ),
             Failure::Unwritten(error) => eprintln!(rt; "steer: cannot write the answer: {error}"),
         }
     }

@@ -4,7 +4,7 @@ use std::fs::File;
 use std::io;
 use std::io::Read;
 
-// One byte more than a table may have, so that the check sees that a file is too long.
+// One byte more than a table or a playlist may have, so that the check sees that a file is too long.
 const READ_BYTES: u64 = 65_536;
 
 fn read_front(rt: &HostRuntime, path: &str) -> io::Result<Vec<u8>> {
