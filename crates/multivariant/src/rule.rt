@@ -1,4 +1,4 @@
-// The rules that each line of a playlist is held to by itself.
+// The rules that a playlist is held to line by line.
 #[derive(Clone, Copy)]
 pub enum Rule {
     ListThere,

@@ -1,4 +1,4 @@
--- What RFC 8216 derives as an attribute list (section 4.2). Assumes nothing.
+-- What the grammar after RFC 8216, section 4.2, derives as an attribute list. Assumes nothing.
 use Rattle.std.specs.Prelude.{◌≡◌, ℕ, true, List, [], ◌∷◌, ◌++◌}
 use Rattle.terms.specs.Classes.{every}
 use Rattle.tags.specs.Attributes.{is_attribute_name, quotable, unquotable}

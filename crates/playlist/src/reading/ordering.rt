@@ -9,7 +9,7 @@ use multivariant::entry::Entry;
 use multivariant::span::Span;
 use std::alloc::{AllocError, Global};
 
-// Whether the pathway at a place of the order has the ID.
+// Whether a span, or that there is none, gives the ID of that name.
 pub(crate) fn is_same(text: &[u8], id: Option<Span>, name: &[u8]) -> bool
     ensures { result ≡ bytes_eq (name_in text.now id) name.now }
 {
