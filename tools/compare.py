@@ -13,9 +13,8 @@ import sys
 import time
 
 import samples
-from steering_reference import TOOLS, judged, playlist_given, told, uri_answer, uri_expected, uri_given
-
-CRATES = TOOLS.parent / "crates"
+from steering_reference import judged, playlist_given, told, uri_answer, uri_expected, uri_given
+from table_reference import CRATES
 
 # So many cases go into one run of a program.
 BATCH = 500

@@ -50,10 +50,9 @@ from pathlib import Path
 
 import samples
 import table_reference
-from table_reference import LEGAL_ID, PCHAR, Unreadable, expand, is_uri, told, words_of
+from table_reference import LEGAL_ID, PCHAR, Unreadable, expand, is_checking, is_uri, store, told, words_of
 
 TOOLS = Path(__file__).resolve().parent
-CRATES = TOOLS.parent / "crates"
 
 # ---- URIs ----
 
@@ -569,24 +568,16 @@ def playlist_lines():
 
 
 def description_lines():
-    given, expected = table_reference.lines()
+    given, expected = table_reference.lines("table")
     more_given, more_expected = playlist_lines()
     return given + more_given, expected + more_expected
 
 
 def main(words):
-    if words not in ([], ["--check"]):
-        sys.exit("usage: python3 tools/steering_reference.py [--check]")
+    tool = Path(__file__).name
+    checking = is_checking(words, tool)
     for crate, lines in (("uri_tests", uri_lines), ("description_tests", description_lines)):
-        given, expected = lines()
-        expected.append("%d cases" % len(given))
-        for name, content in (("stdin", given), ("stdout", expected)):
-            path = CRATES / crate / name
-            text = "".join(line + "\n" for line in content)
-            if not words:
-                path.write_text(text)
-            elif not path.exists() or path.read_text() != text:
-                sys.exit("%s is not what tools/steering_reference.py writes" % path)
+        store(crate, *lines(), tool, checking)
 
 
 if __name__ == "__main__":

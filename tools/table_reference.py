@@ -47,8 +47,7 @@ from pathlib import Path
 
 ROOT = Path(__file__).resolve().parent.parent
 CASES = ROOT / "tools/table_cases.txt"
-STDIN = ROOT / "crates/table_tests/stdin"
-STDOUT = ROOT / "crates/table_tests/stdout"
+CRATES = ROOT / "crates"
 
 
 class Unreadable(Exception):
@@ -345,29 +344,36 @@ def cases():
             sys.exit("%s: line %d is no case: %s" % (CASES, number, line))
 
 
-def lines():
-    """What a program that reads more kinds of descriptions reads of all tables, and what it has to print of them."""
+def lines(kind=None):
+    """What a program reads of all tables, the kind behind the name where it reads more kinds, and what it has to print."""
     given, expected = [], []
     for name, file in cases():
-        given.append("%s table %s" % (name, words_of(file)))
+        given.append(" ".join([name] + [kind] * bool(kind) + [words_of(file)]))
         expected += report(name, file)
     return given, expected
 
 
-def main(words):
-    if words not in ([], ["--check"]):
-        sys.exit("usage: python3 tools/table_reference.py [--check]")
-    given, expected = [], []
-    for name, file in cases():
-        given.append("%s %s" % (name, words_of(file)))
-        expected += report(name, file)
-    expected.append("%d cases" % len(given))
-    for path, lines in ((STDIN, given), (STDOUT, expected)):
-        text = "".join(line + "\n" for line in lines)
-        if not words:
+def store(crate, given, expected, tool, checking):
+    """Writes the input and the output of a test program; where it only checks, ends with status 1 if they differ."""
+    for name, content in (("stdin", given), ("stdout", expected + ["%d cases" % len(given)])):
+        path = CRATES / crate / name
+        text = "".join(line + "\n" for line in content)
+        if not checking:
             path.write_text(text)
         elif not path.exists() or path.read_text() != text:
-            sys.exit("%s is not what tools/table_reference.py writes" % path)
+            sys.exit("%s is not what tools/%s writes" % (path, tool))
+
+
+def is_checking(words, tool):
+    """Whether the words of the command line ask to check alone."""
+    if words not in ([], ["--check"]):
+        sys.exit("usage: python3 tools/%s [--check]" % tool)
+    return words == ["--check"]
+
+
+def main(words):
+    tool = Path(__file__).name
+    store("table_tests", *lines(), tool, is_checking(words, tool))
 
 
 if __name__ == "__main__":

@@ -1,10 +1,9 @@
 -- A path without its dot segments, segment by segment, and its last `/`, byte by byte. Assumes nothing.
-use Rattle.std.proofs.Common.{◌≡◌, ℕ, suc, ◌+◌, ◌-◌, ◌<◌, ◌≤◌, Bool, true, false, cond, eqb, List, [], ◌∷◌, ◌++◌, length, get_or, take, drop, Some, None, codes, Decides, Option, sym, refl, ap, ◌∙◌, subst, ⊎_elim, arith, length-drop, length-take}
+use Rattle.std.proofs.Common.{◌≡◌, ℕ, suc, ◌+◌, ◌-◌, ◌<◌, ◌≤◌, Bool, false, cond, eqb, List, [], ◌∷◌, ◌++◌, length, get_or, take, drop, Some, None, codes, Option, sym, refl, ap, ◌∙◌, subst, arith, length-drop, length-take}
 use lib.Seq.{paste}
 use Rattle.std.proofs.lemmas.List.Edits.{take-paste, drop-paste}
 use Rattle.std.proofs.lemmas.List.{at_drop_more, at_drop_all, take-take, take_rest, drop_more, drop-drop}
-use Rattle.std.proofs.lemmas.Bool.{cond-true, cond-false, eq-eqb, ne_eqb, eqb-true, cases_Bool, false≢true}
-use Rattle.std.proofs.lemmas.Slice.Eq.{bytes_eq-Decides}
+use Rattle.std.proofs.lemmas.Bool.{cond-true, cond-false, eq-eqb, ne_eqb, eqb-true}
 use Rattle.std.specs.Str.{bytes_eq}
 use Rattle.references.specs.declared.segment.Segment.{Segment}
 use Rattle.references.specs.declared.segment.Segment.TheVariants.{Here, Above, Plain}
@@ -42,21 +41,10 @@ pub inside_from : (o : Option ℕ) (n m : ℕ) → n ≤ m → Inside o n → In
 inside_from None n m h k = tt
 inside_from (Some at) n m h k = omega arith
 
--- a test of two texts, as its definition says it
-pub tested : (xs ys : List ℕ) (r : Bool) → Decides r (xs ≡ ys) → bytes_eq xs ys ≡ r
-tested xs ys true d = (bytes_eq-Decides xs ys).1 (d.0 refl)
-tested xs ys false d = ⊎_elim (λ e. absurd (false≢true (d.1 ((bytes_eq-Decides xs ys).0 e)))) (λ e. e) (cases_Bool (bytes_eq xs ys))
-
--- the three segments, by what the two tests say
+-- a segment that is no dot segment, by what the two tests say
 module _ (s : List ℕ) where
   abbrev other : Segment
   other = cond (bytes_eq s (codes "..")) Above Plain
-
-  pub here_is : bytes_eq s (codes ".") ≡ true → Here ≡ segment_of s
-  here_is e = sym (cond-true (bytes_eq s (codes ".")) Here other e)
-
-  pub above_is : bytes_eq s (codes ".") ≡ false → bytes_eq s (codes "..") ≡ true → Above ≡ segment_of s
-  above_is e f = sym (cond-false (bytes_eq s (codes ".")) Here other e ∙ cond-true (bytes_eq s (codes "..")) Above Plain f)
 
   pub plain_is : bytes_eq s (codes ".") ≡ false → bytes_eq s (codes "..") ≡ false → Plain ≡ segment_of s
   plain_is e f = sym (cond-false (bytes_eq s (codes ".")) Here other e ∙ cond-false (bytes_eq s (codes "..")) Above Plain f)
