@@ -1,32 +1,22 @@
 -- Streams counted one by one. Assumes nothing.
 use Rattle.std.proofs.Common.{◌≡◌, ℕ, zero, suc, ◌+◌, ◌-◌, ◌<◌, ◌≤◌, Bool, true, false, cond, eqb, List, [], ◌∷◌, ◌++◌, length, take, drop, Some, sym, refl, ap, ◌∙◌, arith}
 use Rattle.std.proofs.lemmas.Bool.{cond-true, cond-false}
-use Rattle.multivariant.specs.Streams.{Served, pathway_of, is_of, count_of}
+use Rattle.std.specs.List.{filter}
+use Rattle.uri.specs.Cuts.{onto, parts}
+use Rattle.tags.specs.declared.kind.Kind.{Kind}
+use Rattle.tags.specs.declared.kind.Kind.TheVariants.{Steering, Stream, Uri, Other}
+use Rattle.tags.specs.Lines.{Row, kind_of, now_waits, trimmed, is_more, rows, rows_of}
+use Rattle.multivariant.specs.Streams.{Served, no_tag, streams_in, streams_of, pathway_of, is_of, count_of}
 use Rattle.multivariant.specs.Offences.{excess, pathways_now, overrun}
 
-take_none : (n : ℕ) → ◌≡◌ {A = List Served} (take n []) []
-take_none zero = refl
-take_none (suc n) = refl
-
--- the stream that comes next, of those that are counted
-next_of : (end i : ℕ) (s : Served) (ss : List Served) → i < end → take (end - i) (s ∷ ss) ≡ s ∷ take (end - (i + 1)) ss
-next_of end i s ss h =
-    let e : end - i ≡ suc (end - (i + 1)) = omega arith in
-    ap (λ (n : ℕ). take n (s ∷ ss)) e
-
-module _ (id : List ℕ) (end i : ℕ) (s : Served) (ss : List Served) (h : i < end) where
-  count_more : is_of id s ≡ true → count_of id (take (end - i) (s ∷ ss)) ≡ 1 + count_of id (take (end - (i + 1)) ss)
-  count_more e =
-      ap (count_of id) (next_of end i s ss h)
-      ∙ cond-true (is_of id s) (suc (count_of id (take (end - (i + 1)) ss))) (count_of id (take (end - (i + 1)) ss)) e ∙ omega arith
-
-  count_same : is_of id s ≡ false → count_of id (take (end - i) (s ∷ ss)) ≡ count_of id (take (end - (i + 1)) ss)
-  count_same e =
-      ap (count_of id) (next_of end i s ss h)
-      ∙ cond-false (is_of id s) (suc (count_of id (take (end - (i + 1)) ss))) (count_of id (take (end - (i + 1)) ss)) e
-
-pub count_none : (id : List ℕ) (n : ℕ) → count_of id (take n []) ≡ 0
-count_none id n = ap (count_of id) (take_none n)
+-- the streams that a filter lets through are counted
+pub counted : (id : List ℕ) (ss : List Served) → length (filter (is_of id) ss) ≡ count_of id ss
+counted id [] = refl
+counted id (s ∷ ss) = either (is_of id s) (counted id ss)
+  where
+    either : (b : Bool) → length (filter (is_of id) ss) ≡ count_of id ss → length (cond b (s ∷ filter (is_of id) ss) (filter (is_of id) ss)) ≡ cond b (suc (count_of id ss)) (count_of id ss)
+    either true e = ap suc e
+    either false e = e
 
 -- one more stream stands before the others
 one-before : (n : ℕ) (all : List Served) (s : Served) (ss : List Served) → drop n all ≡ s ∷ ss → (take (n + 1) all ≡ take n all ++ s ∷ []) × (drop (n + 1) all ≡ ss)
@@ -54,27 +44,55 @@ at_most pathways same = either (eqb same 0)
     either true = omega arith
     either false = omega arith
 
--- the count goes on: `total` streams are counted in all, `count` of them so far, and `later` with the next one
-module _ (id : List ℕ) (end i total count later : ℕ) (s : Served) (ss rest : List Served) (here : rest ≡ s ∷ ss) (h : i < end)
-    (so_far : total ≡ count + count_of id (take (end - i) rest)) (few : count ≤ i) where
-  now_is : total ≡ count + count_of id (take (end - i) (s ∷ ss))
-  now_is = so_far ∙ ap (λ (l : List Served). count + count_of id (take (end - i) l)) here
+-- a text has few lines, and lines have few streams
+parts_few : (b : ℕ) (text : List ℕ) → length (parts b text) ≤ length text + 1
+parts_few b [] = omega arith
+parts_few b (x ∷ xs) = either (eqb x b) (parts b xs) (parts_few b xs)
+  where
+    either : (t : Bool) (ps : List (List ℕ)) → length ps ≤ length xs + 1 → length (onto x t ps) ≤ length (x ∷ xs) + 1
+    either true ps h = omega arith
+    either false [] h = omega arith
+    either false (p ∷ ps) h = omega arith
 
-  pub counted-one : is_of id s ≡ true → later ≡ count + 1 → (total ≡ later + count_of id (take (end - (i + 1)) ss)) × (later ≤ i + 1)
-  counted-one e is = (omega (arith, now_is, count_more id end i s ss h e), omega arith)
+rows_few : (at : ℕ) (waits : Bool) (ps : List (List ℕ)) → length (rows at waits ps) ≡ length ps
+rows_few at waits [] = refl
+rows_few at waits (p ∷ ps) = ap suc (rows_few (at + length p + 1) (now_waits waits (kind_of waits (trimmed (is_more ps) p))) ps)
 
-  pub counted_none : is_of id s ≡ false → later ≡ count → (total ≡ later + count_of id (take (end - (i + 1)) ss)) × (later ≤ i + 1)
-  counted_none e is = (omega (arith, now_is, count_same id end i s ss h e), omega arith)
+streams_few : (tag : Row) (rows : List Row) → length (streams_in tag rows) ≤ length rows
+streams_few tag [] = omega arith
+streams_few tag (r ∷ rs) = either r.kind (λ t. streams_few t rs)
+  where
+    either : (k : Kind)
+        → ((t : Row) → length (streams_in t rs) ≤ length rs)
+        → length {A = Served} (elim k [
+          | Steering ↦ streams_in tag rs
+          | Stream ↦ streams_in r rs
+          | Uri ↦ record { tag = tag; uri = r } ∷ streams_in no_tag rs
+          | Other ↦ streams_in tag rs
+        ])
+        ≤ suc (length rs)
+    either Steering few = omega (arith, few tag)
+    either Stream few = omega (arith, few r)
+    either Uri few = omega (arith, few no_tag)
+    either Other few = omega (arith, few tag)
 
--- the search for a count that passes its limit goes on behind the stream s
-module _ (all rest ss : List Served) (s : Served) (n pathways same later at next size : ℕ) (first : rest ≡ s ∷ ss) (here : drop n all ≡ rest) (is : same ≡ count_of (pathway_of s) (take n all)) where
-  pub overrun_again : overrun 0 [] all ≡ overrun pathways (take n all) rest → n ≤ at → pathways ≤ n → at < next → next ≤ size + 1
-      → excess pathways same ≡ false → later ≡ pathways_now pathways same
-      → (overrun 0 [] all ≡ overrun later (take (n + 1) all) ss) × (drop (n + 1) all ≡ ss) × (n + 1 ≤ next) × (later ≤ n + 1) × (n + 1 ≤ size + 1)
-  overrun_again so_far a b c d e f = (
+pub few_streams : (text : List ℕ) → length (streams_of text) ≤ length text + 1
+few_streams text = omega (arith, streams_few no_tag (rows_of text), rows_few 0 false (parts 10 text), parts_few 10 text)
+
+-- the search for a count that passes its limit, at the stream s
+module _ (all rest ss : List Served) (s : Served) (n pathways same : ℕ) (so_far : overrun 0 [] all ≡ overrun pathways (take n all) rest) (first : rest ≡ s ∷ ss) (here : drop n all ≡ rest)
+    (is : same ≡ count_of (pathway_of s) (take n all)) where
+  pub overrun_here : excess pathways same ≡ true → overrun 0 [] all ≡ Some s.tag.place
+  overrun_here e =
+      so_far
+      ∙ ap (overrun pathways (take n all)) first
+      ∙ cond-true (excess pathways (count_of (pathway_of s) (take n all))) (Some s.tag.place)
+      (overrun (pathways_now pathways (count_of (pathway_of s) (take n all))) (take n all ++ s ∷ []) ss) (ap (excess pathways) (sym is) ∙ e)
+
+  pub overrun_again : (later : ℕ) → pathways ≤ n → excess pathways same ≡ false → later ≡ pathways_now pathways same
+      → (overrun 0 [] all ≡ overrun later (take (n + 1) all) ss) × (drop (n + 1) all ≡ ss) × (later ≤ n + 1)
+  overrun_again later few e f = (
     so_far ∙ ap (overrun pathways (take n all)) first ∙ overrun_on all n pathways same s ss (here ∙ first) is later e f,
     (one-before n all s ss (here ∙ first)).1,
-    omega arith,
     omega (arith, at_most pathways same),
-    omega arith,
   )

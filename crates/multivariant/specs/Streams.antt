@@ -1,5 +1,6 @@
 -- The streams of a playlist: each has a tag and a URI line. Assumes nothing.
 use Rattle.std.specs.Prelude.{ℕ, suc, Bool, false, cond, ◌||◌, List, [], ◌∷◌}
+use Rattle.std.specs.List.{list_any}
 use Rattle.std.specs.Str.{bytes_eq}
 use Rattle.tags.specs.declared.kind.Kind.TheVariants.{Steering, Stream, Uri, Other}
 use Rattle.tags.specs.Lines.{Row, rows_of, rows_at}
@@ -39,8 +40,7 @@ is_of id s = bytes_eq (pathway_of s) id
 
 -- whether a pathway has a stream
 abbrev pub has_stream : List ℕ → List Served → Bool
-has_stream id [] = false
-has_stream id (s ∷ ss) = is_of id s || has_stream id ss
+has_stream id ss = list_any (is_of id) ss
 
 -- how many streams a pathway has
 abbrev pub count_of : List ℕ → List Served → ℕ

@@ -1,7 +1,29 @@
 -- The streams that the code hands out, as texts. Assumes nothing.
-use Rattle.tags.specs.Views.{row}
+use Rattle.std.specs.Prelude.{◌≡◌, List, [], ◌∷◌, Some, None, Option, MatchOption}
+use Rattle.tags.specs.declared.line.Line.{Line}
+use Rattle.tags.specs.Lines.{Row}
+use Rattle.tags.specs.Views.{row, lines_left}
 use Rattle.multivariant.specs.declared.stream.Stream.{Stream}
-use Rattle.multivariant.specs.Streams.{Served}
+use Rattle.multivariant.specs.declared.streams.Streams.{Streams}
+use Rattle.multivariant.specs.declared.entry.Entry.{Entry}
+use Rattle.multivariant.specs.Streams.{Served, no_tag, streams_in}
+use Rattle.multivariant.specs.Items.{Item}
+
+-- the tag that was read, or the line that stands for none
+abbrev pub tag_row : Option Line → Row
+tag_row None = no_tag
+tag_row (Some l) = row l
 
 abbrev pub served : Stream → Served
-served s = record { tag = row s.tag; uri = row s.uri }
+served s = record { tag = tag_row s.tag; uri = row s.uri }
+
+-- the streams that are still to come
+abbrev pub streams_left : Streams → List Served
+streams_left s = streams_in no_tag (lines_left s.lines)
+
+-- what a stream that comes next is, and what is left behind it
+abbrev pub StreamStep : Streams → Option Stream → Streams → Type 0
+StreamStep s r t = MatchOption r (streams_left s ≡ []) (λ x. streams_left s ≡ served x ∷ streams_left t)
+
+abbrev pub item : Entry → Item
+item e = record { id = e.id.now; uri = e.uri.now }

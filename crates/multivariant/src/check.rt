@@ -14,7 +14,7 @@ use crate::offences::first_offence;
 use crate::rule::Rule;
 use crate::steering::bad_steering;
 use pathways::answering::refuse;
-use tags::lines::line_at;
+use tags::lines::lines_of;
 use terms::fault::Fault;
 use terms::refusal::Refusal;
 use uri::legality::is_legal;
@@ -60,10 +60,7 @@ fn is_mark(line: &[u8]) -> bool
 fn is_headed(text: &[u8]) -> bool
     ensures { result ≡ is_first (rows_of text.now) }
 {
-    match line_at(text, 0, false) {
-        Some(line) => is_mark(line.text),
-        None => false,
-    }
+    lines_of(text).next().is_some_and(|line| is_mark(line.text))
 }
 
 fn check_header(text: &[u8]) -> Result<(), Fault>

@@ -1,9 +1,11 @@
 // Counting pathways and their streams.
 ghost use Rattle.std.specs.Prelude.{◌≡◌, ◌^◌, ◌<◌, [], length, take};
 ghost use Rattle.multivariant.specs.Streams.{streams_of, count_of};
+ghost use Rattle.multivariant.specs.Views.{served};
 ghost use Rattle.multivariant.specs.Offences.{excess, pathways_now, overrun, bad_count};
 
-use crate::streams::{is_of, pathway_of, stream_at};
+use crate::stream::Stream;
+use crate::streams::{is_of, pathway_of, streams_of};
 
 // The most pathways, and the most streams of one.
 const PATHWAYS: usize = 16;
@@ -14,18 +16,10 @@ const STREAMS: usize = 32;
 fn count_streams(text: &[u8], end: usize, id: &[u8]) -> usize
     ensures { result ≡ count_of id.now (take end (streams_of text.now)) }
 {
-    let mut count = 0;
-    let mut at = 0;
-    for i in 0..end {
-        let Some(stream) = stream_at(text, at) else {
-            return count;
-        };
-        if is_of(stream, id) {
-            count += 1;
-        }
-        at = stream.uri.next;
-    }
-    count
+    streams_of(text)
+        .take(end)
+        .filter(|stream| is_of(*stream, id))
+        .count()
 }
 
 // Whether a stream is one too many, behind so many pathways, and so many streams of its own.
@@ -45,21 +39,24 @@ fn pathways_now(pathways: usize, same: usize) -> usize
     if same == 0 { pathways + 1 } else { pathways }
 }
 
+// Where a stream's tag stands.
+fn place_of(stream: Stream) -> usize
+    ensures { result ≡ (served stream.entry).tag.place }
+{
+    stream.tag.map_or(0, |tag| tag.place)
+}
+
 // The tag of the first stream by which a count passes its limit.
 fn find_overrun(text: &[u8]) -> Option<usize>
     ensures { result ≡ overrun 0 [] (streams_of text.now) }
 {
     let mut pathways = 0;
-    let mut before = 0;
-    let mut at = 0;
-    while let Some(stream) = stream_at(text, at) {
+    for (before, stream) in streams_of(text).enumerate() {
         let same = count_streams(text, before, pathway_of(stream));
         if is_excess(pathways, same) {
-            return Some(stream.tag.place);
+            return Some(place_of(stream));
         }
         pathways = pathways_now(pathways, same);
-        before += 1;
-        at = stream.uri.next;
     }
     None
 }
@@ -68,7 +65,7 @@ fn find_overrun(text: &[u8]) -> Option<usize>
 pub(crate) fn bad_count(text: &[u8]) -> Option<usize>
     ensures { result ≡ bad_count (length text.now) (streams_of text.now) }
 {
-    if stream_at(text, 0).is_none() {
+    if streams_of(text).next().is_none() {
         return Some(text.len());
     }
     find_overrun(text)

@@ -3,15 +3,12 @@
 
 pub mod check;
 mod counting;
-pub mod entries;
 pub mod entry;
 mod kinds;
 pub mod named;
 mod offences;
 pub mod rule;
-pub mod span;
-mod spans;
 pub mod steering;
 pub mod stream;
-mod streams;
+pub mod streams;
 mod tag;

@@ -1,8 +1,6 @@
-// Where a steering tag names its server, and its pathway if it names one.
-use crate::span::Span;
-
-#[derive(Clone, Copy)]
-pub struct Steering {
-    pub server: Span,
-    pub id: Option<Span>,
+// Where a steering tag leads: its server's reference, and its pathway if it names one, each lent from the playlist.
+#[derive(Clone, Copy, Debug, PartialEq, Eq)]
+pub struct Steering<'a> {
+    pub server: &'a [u8],
+    pub id: Option<&'a [u8]>,
 }

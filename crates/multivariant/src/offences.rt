@@ -17,23 +17,19 @@ use references::resolution::resolve;
 use tags::attributes::{is_list, repeats_name};
 use tags::kind::Kind;
 use tags::line::Line;
-use tags::lines::line_at;
+use tags::lines::{lines_behind, lines_of};
 use tags::value::Value;
 
 // Whether a URI line comes behind a line and before the next stream tag.
 fn is_served(text: &[u8], line: Line) -> bool
     ensures { result ≡ is_served (rows_at line.entry.next line.entry.waits text.now) }
 {
-    let mut at = line.next;
-    let mut waits = line.waits;
-    while let Some(next) = line_at(text, at, waits) {
+    for next in lines_behind(text, line) {
         match next.kind {
             Kind::Stream => return false,
             Kind::Uri => return true,
             Kind::Steering | Kind::Other => {}
         }
-        at = next.next;
-        waits = next.waits;
     }
     false
 }
@@ -162,15 +158,11 @@ fn offence_of(own: &[u8], text: &[u8], rule: Rule, line: Line) -> Option<usize>
 pub(crate) fn first_offence(own: &[u8], text: &[u8], rule: Rule) -> Option<usize>
     ensures { result ≡ first own.now text.now rule (rows_of text.now) }
 {
-    let mut at = 0;
-    let mut waits = false;
-    while let Some(line) = line_at(text, at, waits) {
+    for line in lines_of(text) {
         let offence = offence_of(own, text, rule, line);
         if offence.is_some() {
             return offence;
         }
-        at = line.next;
-        waits = line.waits;
     }
     None
 }

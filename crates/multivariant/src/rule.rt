@@ -1,5 +1,5 @@
 // The rules that a playlist is held to line by line.
-#[derive(Clone, Copy)]
+#[derive(Clone, Copy, Debug, PartialEq, Eq)]
 pub enum Rule {
     ListThere,
     ListSound,

@@ -12,22 +12,11 @@ use tags::line::Line;
 use tags::value::Value;
 use uri::cutting::cut;
 
-// The bytes behind the first `count`, of which there may be none.
-fn behind(text: &[u8], count: usize) -> &[u8]
-    ensures value { result.now ≡ drop count text.now }
-    ensures within { length result.now ≤ length text.now }
-{
-    if count > text.len() {
-        return &[];
-    }
-    &text[count..]
-}
-
 pub(crate) fn list_of(line: Line<'_>) -> &[u8]
     ensures value { result.now ≡ list_of (row line.entry) }
     ensures within { length result.now ≤ length line.entry.text.now }
 {
-    behind(line.text, name_length(line.kind))
+    line.text.get(name_length(line.kind)..).unwrap_or(&[])
 }
 
 // The value of SERVER-URI in a tag.
@@ -51,14 +40,14 @@ pub(crate) fn id_of(line: Line<'_>) -> Option<Value<'_>>
 pub(crate) fn is_quoted(value: &[u8]) -> bool
     ensures { result ≡ is_quoted value.now }
 {
-    value.len() > 0 && value[0] == b'"'
+    matches!(value, [b'"', ..])
 }
 
 // What stands between the quotes of a value.
 pub(crate) fn unquote(value: &[u8]) -> &[u8]
     ensures { result.now ≡ unquoted value.now }
 {
-    let (inner, _) = cut(b'"', behind(value, 1));
+    let (inner, _) = cut(b'"', value.get(1..).unwrap_or(&[]));
     inner
 }
 

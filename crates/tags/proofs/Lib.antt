@@ -1,6 +1,7 @@
 pub mod Rows
-pub mod Fields
+pub mod Splitting
 pub mod Lying
 pub mod Uncut
 pub mod Derivations
 pub mod Grammar
+pub mod Roads

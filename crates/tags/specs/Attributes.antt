@@ -1,5 +1,6 @@
 -- The attribute list of a tag, as RFC 8216 writes it (section 4.2): name `=` value, with commas between. Assumes nothing.
 use Rattle.std.specs.Prelude.{ℕ, suc, ◌+◌, Bool, true, false, cond, not, ◌&&◌, ◌||◌, List, [], ◌∷◌, length, drop, Some, None, Option, ◌==◌, nat_le, nat_lt}
+use Rattle.std.specs.List.{list_all, list_any}
 use Rattle.std.specs.Str.{bytes_eq}
 use Rattle.terms.specs.Classes.{digit, every}
 use Rattle.uri.specs.Cuts.{before, behind, onto}
@@ -83,8 +84,7 @@ abbrev pub is_attribute : List ℕ → Bool
 is_attribute field = is_attribute_name (before 61 field) && if_value (behind 61 field)
 
 abbrev pub are_attributes : List Field → Bool
-are_attributes [] = true
-are_attributes (f ∷ fs) = is_attribute f.text && are_attributes fs
+are_attributes fs = list_all (λ (f : Field). is_attribute f.text) fs
 
 -- whether a list has the syntax
 abbrev pub is_list : List ℕ → Bool
@@ -95,8 +95,7 @@ is_named name f = bytes_eq (before 61 f.text) name
 
 -- whether one of the fields has the name
 abbrev pub has_name : List ℕ → List Field → Bool
-has_name name [] = false
-has_name name (f ∷ fs) = is_named name f || has_name name fs
+has_name name fs = list_any (is_named name) fs
 
 -- whether a name occurs twice
 abbrev pub repeats : List Field → Bool

@@ -1,9 +1,13 @@
 -- The lines, fields and values that the code hands out, as texts. Assumes nothing.
+use Rattle.std.specs.Prelude.{◌≡◌, ℕ, ◌+◌, ◌≤◌, List, [], ◌∷◌, length, Option, MatchOption}
 use Rattle.tags.specs.declared.line.Line.{Line}
+use Rattle.tags.specs.declared.fields.Fields.{Fields}
+use Rattle.tags.specs.declared.lines.Lines.{Lines}
 use Rattle.tags.specs.declared.value.Value.{Value}
 use Rattle.tags.specs.declared.field.Field as code
-use Rattle.tags.specs.Lines.{Row, Shown}
-use Rattle.tags.specs.Attributes.{Field, Found}
+use Rattle.tags.specs.Lines.{Row, Shown, rows_at}
+use Rattle.tags.specs.Attributes.{Field, Found, fields_at}
+use Rattle.tags.specs.Places.{Lies}
 
 abbrev pub row : Line → Row
 row l = record { kind = l.kind; place = l.place; text = l.text.now }
@@ -16,3 +20,33 @@ field f = record { place = f.place; text = f.text.now }
 
 abbrev pub found : Value → Found
 found v = record { place = v.place; text = v.text.now }
+
+-- the fields that are still to come
+abbrev pub fields_left : Fields → List Field
+fields_left s = fields_at s.at s.list.now
+
+-- what a field that comes next is, and what is left behind it
+abbrev pub FieldStep : Fields → Option code.Field → Fields → Type 0
+FieldStep s r t = MatchOption r (fields_left s ≡ [])
+    (λ f. (fields_left s ≡ field f ∷ fields_left t)
+    × (fields_left t ≡ fields_at f.next t.list.now)
+    × (t.list.now ≡ s.list.now)
+    × Lies t.list.now f.place f.text.now
+    × (f.place + length f.text.now + 1 ≡ f.next)
+    × (f.next ≤ length t.list.now + 1))
+
+-- the playlist that lines are read from
+abbrev pub whole : Lines → List ℕ
+whole s = s.text.now
+
+-- the lines that are still to come
+abbrev pub lines_left : Lines → List Row
+lines_left s = rows_at s.at s.waits (whole s)
+
+-- what a line that comes next is, and what is left behind it
+abbrev pub LineStep : Lines → Option Line → Lines → Type 0
+LineStep s r t = MatchOption r (lines_left s ≡ [])
+    (λ l. (lines_left s ≡ row l ∷ lines_left t)
+    × (lines_left t ≡ rows_at l.next l.waits (whole t))
+    × (whole t ≡ whole s)
+    × (l.place + length l.text.now ≤ length (whole t)))

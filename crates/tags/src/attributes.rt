@@ -12,7 +12,7 @@ ghost use Rattle.tags.specs.Views.{field, found};
 
 use crate::charset::Charset;
 use crate::field::Field;
-use crate::lines::rest_from;
+use crate::fields::{fields_from, fields_of};
 use crate::value::Value;
 use uri::cutting::cut;
 
@@ -30,60 +30,7 @@ fn allows(charset: Charset, byte: u8) -> bool
 fn is_made_of(charset: Charset, text: &[u8]) -> bool
     ensures { result ≡ every (stands charset) text.now }
 {
-    for byte in text {
-        if !allows(charset, *byte) {
-            return false;
-        }
-    }
-    true
-}
-
-// Whether a comma parts two fields there.
-fn is_parting(quoted: bool, byte: u8) -> bool
-    ensures { result ≡ parting quoted byte }
-{
-    byte == b',' && !quoted
-}
-
-// Whether what follows the byte stands between quotes.
-fn now_quoted(quoted: bool, byte: u8) -> bool
-    ensures { result ≡ now_quoted quoted byte }
-{
-    if byte == b'"' { !quoted } else { quoted }
-}
-
-// The length of the first field: it ends at a comma that does not stand between quotes.
-fn field_length(list: &[u8]) -> usize
-    ensures value { result ≡ field_length false list.now }
-    ensures within { result ≤ length list.now }
-{
-    let mut quoted = false;
-    for (i, byte) in list.iter().enumerate() {
-        if is_parting(quoted, *byte) {
-            return i;
-        }
-        quoted = now_quoted(quoted, *byte);
-    }
-    list.len()
-}
-
-// The field that begins at `at`, where the list is that long.
-fn field_at(list: &[u8], at: usize) -> Option<Field<'_>>
-    ensures step { MatchOption result (fields_at at list.now ≡ []) (λ f. fields_at at list.now ≡ field f ∷ fields_at f.next list.now) }
-    ensures forth { MatchOption result (length list.now < at) (λ f. (at < f.next) × (f.next ≤ length list.now + 1)) }
-    ensures lies { MatchOption result (length list.now < at) (λ f. Lies list.now f.place f.text.now) }
-    ensures span { MatchOption result (length list.now < at) (λ f. f.place + length f.text.now + 1 ≡ f.next) }
-{
-    if at > list.len() {
-        return None;
-    }
-    let rest = rest_from(list, at);
-    let length = field_length(rest);
-    Some(Field {
-        place: at,
-        text: &rest[0..length],
-        next: at + length + 1,
-    })
+    text.iter().all(|byte| allows(charset, *byte))
 }
 
 // What stands behind an opening quote is closed by the next one, and nothing stands behind that.
@@ -121,14 +68,7 @@ fn is_attribute(field: &[u8]) -> bool
 fn keeps_syntax(list: &[u8]) -> bool
     ensures { result ≡ is_list list.now }
 {
-    let mut at = 0;
-    while let Some(field) = field_at(list, at) {
-        if !is_attribute(field.text) {
-            return false;
-        }
-        at = field.next;
-    }
-    true
+    fields_of(list).all(|field| is_attribute(field.text))
 }
 
 // Whether `list` has the syntax of an attribute list: whether the grammar derives it.
@@ -150,14 +90,7 @@ fn is_named(field: &[u8], name: &[u8]) -> bool
 fn has_name(list: &[u8], from: usize, name: &[u8]) -> bool
     ensures { result ≡ has_name name.now (fields_at from list.now) }
 {
-    let mut at = from;
-    while let Some(field) = field_at(list, at) {
-        if is_named(field.text, name) {
-            return true;
-        }
-        at = field.next;
-    }
-    false
+    fields_from(list, from).any(|field| is_named(field.text, name))
 }
 
 fn is_repeated(list: &[u8], field: Field) -> bool
@@ -171,23 +104,12 @@ fn is_repeated(list: &[u8], field: Field) -> bool
 pub fn repeats_name(list: &[u8]) -> bool
     ensures { result ≡ repeats_name list.now }
 {
-    let mut at = 0;
-    while let Some(field) = field_at(list, at) {
+    for field in fields_of(list) {
         if is_repeated(list, field) {
             return true;
         }
-        at = field.next;
     }
     false
-}
-
-fn or_nothing(text: Option<&[u8]>) -> &[u8]
-    ensures { result.now ≡ or_nothing (option_map (λ x. x.now) text.entry) }
-{
-    match text {
-        Some(text) => text,
-        None => &[],
-    }
 }
 
 // What stands behind the name of a field and its `=`.
@@ -201,7 +123,7 @@ fn value_in<'a>(list: &[u8], field: Field<'a>) -> Value<'a>
     let (name, value) = cut(b'=', field.text);
     Value {
         place: field.place + name.len() + 1,
-        text: or_nothing(value),
+        text: value.unwrap_or(&[]),
     }
 }
 
@@ -211,12 +133,10 @@ pub fn value_of<'a>(list: &'a [u8], name: &[u8]) -> Option<Value<'a>>
     ensures lies { IfSome result (λ v. Lies list.now v.place v.text.now) }
     ensures within { IfSome result (λ v. v.place + length v.text.now ≤ length list.now + 1) }
 {
-    let mut from = 0;
-    while let Some(attribute) = field_at(list, from) {
+    for attribute in fields_of(list) {
         if is_named(attribute.text, name) {
             return Some(value_in(list, attribute));
         }
-        from = attribute.next;
     }
     None
 }

@@ -4,6 +4,7 @@
 pub mod attributes;
 pub mod charset;
 pub mod field;
+mod fields;
 pub mod kind;
 pub mod line;
 pub mod lines;

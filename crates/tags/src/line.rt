@@ -2,7 +2,7 @@
 // whether a stream tag still waits for its URI line there.
 use crate::kind::Kind;
 
-#[derive(Clone, Copy)]
+#[derive(Clone, Copy, Debug, PartialEq, Eq)]
 pub struct Line<'a> {
     pub kind: Kind,
     pub place: usize,

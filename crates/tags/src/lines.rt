@@ -1,9 +1,9 @@
 // Reading a playlist line by line.
 ghost use Rattle.std.specs.Prelude.{◌≡◌, ◌+◌, ◌<◌, ◌≤◌, true, [], ◌∷◌, length, drop, MatchOption};
 ghost use Rattle.std.specs.Option.{option_map};
-ghost use Rattle.tags.specs.Lines.{begins, is_written, kind_of, now_waits, ends_in_return, trimmed, line_at, rows_at};
+ghost use Rattle.tags.specs.Lines.{begins, is_written, kind_of, now_waits, ends_in_return, trimmed, line_at, rows_at, rows_of};
 ghost use Rattle.tags.specs.Places.{Lies};
-ghost use Rattle.tags.specs.Views.{row, shown};
+ghost use Rattle.tags.specs.Views.{row, shown, lines_left, whole};
 
 use crate::kind::Kind;
 use crate::line::Line;
@@ -97,4 +97,54 @@ pub fn line_at(text: &[u8], at: usize, waits: bool) -> Option<Line<'_>>
         next: at + length + 1,
         waits: now_waits(waits, kind),
     })
+}
+
+// The lines of a playlist from some line on, one by one.
+#[derive(Clone, Copy)]
+pub struct Lines<'a> {
+    text: &'a [u8],
+    at: usize,
+    waits: bool,
+}
+
+// All lines of a playlist.
+pub fn lines_of(text: &[u8]) -> Lines<'_>
+    ensures left { lines_left result ≡ rows_of text.now }
+    ensures text { whole result ≡ text.now }
+{
+    Lines {
+        text,
+        at: 0,
+        waits: false,
+    }
+}
+
+// The lines behind a line of a playlist.
+pub fn lines_behind<'a>(text: &'a [u8], line: Line) -> Lines<'a>
+    ensures left { lines_left result ≡ rows_at line.entry.next line.entry.waits text.now }
+    ensures text { whole result ≡ text.now }
+{
+    Lines {
+        text,
+        at: line.next,
+        waits: line.waits,
+    }
+}
+
+impl<'a> Iterator for Lines<'a> {
+    type Item = Line<'a>;
+
+    ghost use Rattle.std.specs.Iterator.{item_count};
+    ghost use Rattle.tags.specs.Views.{lines_left, LineStep};
+
+    ghost next_gives = { LineStep };
+
+    ghost remaining = { item_count lines_left };
+
+    fn next(&mut self) -> Option<Line<'a>> {
+        let line = line_at(self.text, self.at, self.waits)?;
+        self.at = line.next;
+        self.waits = line.waits;
+        Some(line)
+    }
 }

@@ -1,5 +1,6 @@
 -- The four sets of bytes that texts are judged by. Assumes nothing.
 use Rattle.std.specs.Prelude.{ℕ, suc, ◌+◌, Bool, true, false, cond, not, ◌&&◌, ◌||◌, List, [], ◌∷◌, length, codes, ◌==◌, bit_and, nat_le}
+use Rattle.std.specs.List.{list_all}
 
 -- from one byte to another, both included
 abbrev pub within : ℕ → ℕ → ℕ → Bool
@@ -32,8 +33,7 @@ name_byte b = letter b || (digit b || one_of (codes ".-_") b)
 
 -- every byte of a text passes
 abbrev pub every : (ℕ → Bool) → List ℕ → Bool
-every test [] = true
-every test (b ∷ bs) = test b && every test bs
+every test text = list_all test text
 
 -- 1 to `most` name bytes
 abbrev pub is_name : ℕ → List ℕ → Bool

@@ -3,7 +3,7 @@ use crate::layer::Layer;
 use crate::refusal::Refusal;
 use std::fmt;
 
-#[derive(Clone, Copy)]
+#[derive(Clone, Copy, Debug, PartialEq, Eq)]
 pub struct Fault {
     pub refusal: Refusal,
     pub place: usize,
@@ -13,10 +13,12 @@ pub struct Fault {
 // Number, place and layer, and then the reason in plain words.
 impl fmt::Display for Fault {
     fn fmt<W: fmt::Write>(&self, f: &mut fmt::Formatter<W>) -> fmt::Result {
-        let number = self.refusal.number();
-        let place = self.place;
-        let layer = self.layer.name();
-        let reason = self.refusal.reason();
-        write!(f, "{number} {place} {layer} {reason}")
+        let Fault {
+            refusal,
+            place,
+            layer,
+        } = *self;
+        let number = refusal.number();
+        write!(f, "{number} {place} {layer} {refusal}")
     }
 }

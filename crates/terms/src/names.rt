@@ -11,10 +11,5 @@ pub fn is_name(text: &[u8], most: usize) -> bool
     if text.len() < 1 || text.len() > most {
         return false;
     }
-    for byte in text {
-        if !is_name_byte(*byte) {
-            return false;
-        }
-    }
-    true
+    text.iter().all(|byte| is_name_byte(*byte))
 }

@@ -2,7 +2,9 @@
 ghost use Rattle.std.specs.Prelude.{◌≡◌};
 ghost use Rattle.terms.specs.Refusals.{number};
 
-#[derive(Clone, Copy)]
+use std::fmt;
+
+#[derive(Clone, Copy, Debug, PartialEq, Eq)]
 pub enum Refusal {
     MomentOutOfRange,
     WrongToken,
@@ -69,10 +71,12 @@ impl Refusal {
             Refusal::CloneMemberLong => 40,
         }
     }
+}
 
-    // The reason in plain words.
-    pub(crate) fn reason(self) -> &'static str {
-        match self {
+// The reason in plain words.
+impl fmt::Display for Refusal {
+    fn fmt<W: fmt::Write>(&self, f: &mut fmt::Formatter<W>) -> fmt::Result {
+        f.write_str(match self {
             Refusal::MomentOutOfRange => "the moment is before the latest one or above 2^53",
             Refusal::WrongToken => "the token is not the open request's",
             Refusal::Ended => "steering has ended",
@@ -103,6 +107,6 @@ impl Refusal {
             Refusal::Clones => "PATHWAY-CLONES is illegal",
             Refusal::CloneIdTaken => "a clone's ID is taken",
             Refusal::CloneMemberLong => "a clone's member has more than 512 bytes",
-        }
+        })
     }
 }

@@ -1,5 +1,5 @@
 // The parts of a URI that are told apart by the bytes that may stand in them; a fragment has a query's.
-#[derive(Clone, Copy)]
+#[derive(Clone, Copy, Debug, PartialEq, Eq)]
 pub enum Component {
     Path,
     Query,

@@ -3,23 +3,12 @@ ghost use Rattle.std.specs.Prelude.{◌≡◌, ◌≤◌, length, take, ◌==◌
 ghost use Rattle.std.specs.Option.{option_map};
 ghost use Rattle.uri.specs.Cuts.{place, before, behind_at, behind};
 
-fn is_that(byte: u8, wanted: u8) -> bool
-    ensures { result ≡ (byte == wanted) }
-{
-    byte == wanted
-}
-
 // How many bytes stand before the first `byte`; where there is none, all of them.
 pub fn place_of(byte: u8, text: &[u8]) -> usize
     ensures value { result ≡ place byte text.now }
     ensures within { result ≤ length text.now }
 {
-    for (i, x) in text.iter().enumerate() {
-        if is_that(*x, byte) {
-            return i;
-        }
-    }
-    text.len()
+    text.iter().position(|x| *x == byte).unwrap_or(text.len())
 }
 
 // What stands before a place, and what stands behind it, if the text goes on there.

@@ -27,7 +27,7 @@ fn allows(component: Component, byte: u8) -> bool
     }
     match byte {
         b':' | b'@' | b'/' => true,
-        b'?' => matches!(component, Component::Query),
+        b'?' => component == Component::Query,
         _ => false,
     }
 }
@@ -58,6 +58,7 @@ fn is_scheme(text: &[u8]) -> bool
     text.eq_ignore_ascii_case(b"http") || text.eq_ignore_ascii_case(b"https")
 }
 
+// `parse` would take a `&str` and a sign: the loop is plainer.
 fn is_port(digits: &[u8]) -> bool
     ensures { result ≡ is_port digits.now }
 {
@@ -78,22 +79,13 @@ fn is_authority(text: &[u8]) -> bool
     ensures { result ≡ is_authority text.now }
 {
     let (host, port) = cut(b':', text);
-    if !is_name(host, HOST_BYTES) {
-        return false;
-    }
-    match port {
-        Some(digits) => is_port(digits),
-        None => true,
-    }
+    is_name(host, HOST_BYTES) && port.is_none_or(is_port)
 }
 
-fn is_query(text: Option<&[u8]>) -> bool
-    ensures { result ≡ if_present is_query (option_map (λ x. x.now) text.entry) }
+fn is_query(text: &[u8]) -> bool
+    ensures { result ≡ is_query text.now }
 {
-    match text {
-        Some(query) => is_escaped(Component::Query, query),
-        None => true,
-    }
+    is_escaped(Component::Query, text)
 }
 
 // Whether a URI's path may be so: bytes of a path, and escapes.
@@ -106,17 +98,11 @@ pub fn is_path(text: &[u8]) -> bool
 fn are_legal(parts: Parts) -> bool
     ensures { result ≡ legal_parts (texts parts.entry) }
 {
-    let Some(scheme) = parts.scheme else {
-        return false;
-    };
-    let Some(authority) = parts.authority else {
-        return false;
-    };
-    is_scheme(scheme)
-        && is_authority(authority)
+    parts.scheme.is_some_and(is_scheme)
+        && parts.authority.is_some_and(is_authority)
         && is_path(parts.path)
-        && is_query(parts.query)
-        && is_query(parts.fragment)
+        && parts.query.is_none_or(is_query)
+        && parts.fragment.is_none_or(is_query)
 }
 
 // Short enough, and each part in its form.

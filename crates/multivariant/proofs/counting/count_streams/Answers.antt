@@ -1,19 +1,18 @@
-use Rattle.std.proofs.Common.{◌-◌, List, take, sym, ap, arith}
-use Rattle.multivariant.specs.Streams.{Served, streams_at, count_of}
-use Rattle.multivariant.specs.Views.{served}
-use Rattle.multivariant.proofs.Counts.{count_none, counted-one, counted_none}
+use Rattle.std.proofs.Common.{rules, take, ap, ◌∙◌}
+use Rattle.std.proofs.lemmas.Iterator.{YieldsList-from_take}
+use Rattle.std.proofs.lemmas.Iterator.Consumers.{YieldsList-at, YieldsList-from_filter, count_from_yields_List}
+use borrow.Author.Tests.{tests}
+use Rattle.multivariant.specs.Streams.{is_of, streams_of, count_of}
+use Rattle.multivariant.specs.Views.{streams_left}
+use Rattle.multivariant.proofs.Counts.{counted}
+use Rattle.multivariant.proofs.Roads.{all_streams}
 use Rattle.multivariant.proofs.counting.count_streams.Goals as goal
 
-pub returns-in_default : goal.returns-in_default
-returns-in_default c =
-    omega (arith, c.loop-i.invariant.0, ap (λ (l : List Served). count_of c.args.id.now (take (c.args.end - c.loop-i.i) l)) c.in_default.ensures.step, count_none c.args.id.now (c.args.end - c.loop-i.i))
-
-pub loop-i-preserved : goal.loop-i-preserved
-loop-i-preserved c = elim c.if-is_of.branch [
-  | goal.then-is_of w ↦
-      counted-one c.args.id.now c.args.end c.loop-i.i _ c.loop-i.count c.if-is_of.count (served c.in-Some.stream) (streams_at c.in-Some.stream.uri.next c.args.text.now) _
-      c.in-Some.ensures.step c.loop-i-test.true c.loop-i.invariant.0 c.loop-i.invariant.1 (sym w.if-is_of.ensures) w.count-is
-  | goal.else-is_of w ↦
-      counted_none c.args.id.now c.args.end c.loop-i.i _ c.loop-i.count c.if-is_of.count (served c.in-Some.stream) (streams_at c.in-Some.stream.uri.next c.args.text.now) _
-      c.in-Some.ensures.step c.loop-i-test.true c.loop-i.invariant.0 c.loop-i.invariant.1 (sym w.if-is_of.ensures) w.count-is
-]
+pub returns : goal.returns
+returns c =
+    count_from_yields_List c.filter.result c.count.result c.count.ensures.ran
+    (YieldsList-from_filter _ (is_of c.args.id.now)
+    (YieldsList-at c.filter.ensures.source (YieldsList-from_take c.args.end (YieldsList-at c.take.ensures.source (all_streams c.streams_of.result)) c.take.ensures.count))
+    c.filter.ensures.closure (λ x r q k. search (rules, tests)))
+    ∙ counted c.args.id.now (take c.args.end (streams_left c.streams_of.result))
+    ∙ ap (λ ss. count_of c.args.id.now (take c.args.end ss)) c.streams_of.ensures

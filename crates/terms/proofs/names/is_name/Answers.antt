@@ -1,18 +1,12 @@
-use Rattle.std.proofs.Common.{true, false, sym, ◌∙◌, arith}
+use Rattle.std.proofs.Common.{rules, sym, arith}
+use Rattle.std.proofs.lemmas.Iterator.{YieldsList-from_slice}
+use Rattle.std.proofs.lemmas.Iterator.Search.{all_from_yields_List}
+use borrow.Author.Tests.{tests}
 use Rattle.terms.specs.Classes.{name_byte}
-use Rattle.terms.proofs.Runs.{every_on, every_off, every-end, name_by_bytes}
+use Rattle.terms.proofs.Runs.{name_by_bytes}
 use Rattle.terms.proofs.names.is_name.Goals as goal
-
-pub loop-byte-preserved : goal.loop-byte-preserved
-loop-byte-preserved c =
-    c.loop-byte.invariant ∙ every_on name_byte c.args.text.now c.loop-byte.byte-index c.loop-byte-test.true (sym c.if-not-is_name_byte.ensures)
-
-pub returns-then-not-is_name_byte : goal.returns-then-not-is_name_byte
-returns-then-not-is_name_byte c =
-    sym (name_by_bytes c.args.most c.args.text.now false (omega arith) (omega arith)
-    (c.loop-byte.invariant ∙ every_off name_byte c.args.text.now c.loop-byte.byte-index c.loop-byte-test.true (sym c.if-not-is_name_byte.ensures)))
 
 pub returns : goal.returns
 returns c =
-    sym (name_by_bytes c.args.most c.args.text.now true (omega arith) (omega arith)
-    (c.loop-byte.invariant ∙ every-end name_byte c.args.text.now c.loop-byte.byte-index c.loop-byte-test.false))
+    sym (name_by_bytes c.args.most c.args.text.now c.all.result (omega arith) (omega arith)
+    (sym (all_from_yields_List name_byte _ _ _ c.all.ensures.ran (YieldsList-from_slice c.args.text.now cc) (λ x b q k. search (rules, tests)))))

@@ -1,22 +1,16 @@
-use Rattle.std.proofs.Common.{sym, arith}
-use Rattle.std.proofs.lemmas.Bool.{eqb-true, eqb-false}
-use Rattle.uri.proofs.Places.{place_here, place-later, place_end}
+use Rattle.std.proofs.Common.{◌≡◌, ◌≢◌, ◌+◌, suc, refl, sym, rules, arith, ◌∙◌}
+use Rattle.std.proofs.lemmas.Bool.{cond-true, cond-false, eq-eqb, ne_eqb}
+use Rattle.std.proofs.lemmas.Iterator.{YieldsList-from_slice, IsFirst-from_position, index_from_first}
+use borrow.Author.Tests.{tests}
+use Rattle.uri.specs.Cuts.{place}
 use Rattle.uri.proofs.cutting.place_of.Goals as goal
 
-pub loop-i-preserved : goal.loop-i-preserved
-loop-i-preserved c =
-    omega (arith, c.loop-i.invariant, place-later c.args.byte c.args.text.now c.loop-i.i c.loop-i-test.true (eqb-false _ _ (sym c.if-is_that.ensures)))
-
-pub returns-then-is_that : goal.returns-then-is_that
-returns-then-is_that c =
-    record {
-      value = omega (arith, c.loop-i.invariant, place_here c.args.byte c.args.text.now c.loop-i.i c.loop-i-test.true (eqb-true _ _ (sym c.if-is_that.ensures)));
-      within = omega arith;
-    }
-
-pub returns : goal.returns
-returns c =
-    record {
-      value = omega (arith, c.loop-i.invariant, place_end c.args.byte c.args.text.now c.loop-i.i c.loop-i-test.false);
-      within = omega arith;
-    }
+pub returns-clause-value : goal.returns-clause-value
+returns-clause-value c =
+    let b = c.args.byte in
+    let text = c.args.text.now in
+    c.unwrap_or.ensures
+    ∙ sym (index_from_first (place b) (λ x. x ≡ b) (λ x. x ≢ b) refl
+    (λ x xs h. cond-true _ 0 (suc (place b xs)) (eq-eqb x b h))
+    (λ x xs h. cond-false _ 0 (suc (place b xs)) (ne_eqb x b h) ∙ omega arith) text c.position.result
+    (IsFirst-from_position _ _ c.position.result (λ x. x ≡ b) (λ x. x ≢ b) c.position.ensures.ran (YieldsList-from_slice text cc) (λ x q k. search (rules, tests)) (λ x q k. search (rules, tests))))

@@ -1,6 +1,6 @@
 use Rattle.std.proofs.Common.{sym, arith}
-use Rattle.tags.proofs.Fields.{length-here, length-later, length-end}
-use Rattle.tags.proofs.attributes.field_length.Goals as goal
+use Rattle.tags.proofs.Splitting.{length-here, length-later, length-end}
+use Rattle.tags.proofs.fields.field_length.Goals as goal
 
 pub loop-i-preserved : goal.loop-i-preserved
 loop-i-preserved c = omega (

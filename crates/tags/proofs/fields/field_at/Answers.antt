@@ -1,7 +1,7 @@
 use Rattle.std.proofs.Common.{◌-◌}
 use Rattle.tags.proofs.Lying.{front_found_lies}
-use Rattle.tags.proofs.Fields.{field_read}
-use Rattle.tags.proofs.attributes.field_at.Goals as goal
+use Rattle.tags.proofs.Splitting.{field_read}
+use Rattle.tags.proofs.fields.field_at.Goals as goal
 
 pub returns : goal.returns
 returns c =

@@ -1,6 +1,0 @@
-// A part of a text, from one byte up to another.
-#[derive(Clone, Copy)]
-pub struct Span {
-    pub from: usize,
-    pub to: usize,
-}
