@@ -3,7 +3,7 @@ use Rattle.std.specs.Prelude.{ℕ, false, List, [], ◌∷◌, length, Result}
 use Rattle.terms.specs.Faults.{Told}
 use Rattle.pathways.specs.Rules as rules
 use Rattle.tags.specs.Lines.{rows_of}
-use Rattle.multivariant.specs.declared.rule.Rule.TheVariants.{ListThere, ListSound, NamesApart, ServerQuoted, UriLine, IdLegal, IdQuoted, UriLegal, IdKnown}
+use Rattle.multivariant.specs.Rules.{ListThere, ListSound, NamesApart, ServerQuoted, UriLine, IdLegal, IdQuoted, UriLegal, IdKnown}
 use Rattle.multivariant.specs.Streams.{streams_of}
 use Rattle.multivariant.specs.Offences.{bad_own, bad_length, bad_header, first, bad_steering, bad_count}
 

@@ -1,3 +1,4 @@
+pub mod Rules
 pub mod Tags
 pub mod Streams
 pub mod Views

@@ -10,8 +10,7 @@ use Rattle.tags.specs.declared.kind.Kind.{Kind}
 use Rattle.tags.specs.declared.kind.Kind.TheVariants.{Steering, Stream, Uri, Other}
 use Rattle.tags.specs.Lines.{Row}
 use Rattle.tags.specs.Attributes.{Found, is_list, repeats_name, is_quoted, unquoted}
-use Rattle.multivariant.specs.declared.rule.Rule.{Rule}
-use Rattle.multivariant.specs.declared.rule.Rule.TheVariants.{ListThere, ListSound, NamesApart, ServerQuoted, UriLine, IdLegal, IdQuoted, UriLegal, IdKnown}
+use Rattle.multivariant.specs.Rules.{Rule, ListThere, ListSound, NamesApart, ServerQuoted, UriLine, IdLegal, IdQuoted, UriLegal, IdKnown}
 use Rattle.multivariant.specs.Tags.{is_tag, is_steering, is_stream, list_of, server_of, id_of, spot_of, is_quoted_value}
 use Rattle.multivariant.specs.Streams.{Served, streams_of, pathway_of, has_stream, count_of}
 

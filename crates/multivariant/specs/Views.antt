@@ -1,13 +1,15 @@
 -- The streams that the code hands out, as texts. Assumes nothing.
-use Rattle.std.specs.Prelude.{◌≡◌, List, [], ◌∷◌, Some, None, Option, MatchOption}
+use Rattle.std.specs.Prelude.{◌≡◌, ℕ, List, [], ◌∷◌, Some, None, Option, MatchOption}
 use Rattle.tags.specs.declared.line.Line.{Line}
-use Rattle.tags.specs.Lines.{Row}
+use Rattle.tags.specs.Lines.{Row, rows_at}
 use Rattle.tags.specs.Views.{row, lines_left}
 use Rattle.multivariant.specs.declared.stream.Stream.{Stream}
 use Rattle.multivariant.specs.declared.streams.Streams.{Streams}
 use Rattle.multivariant.specs.declared.entry.Entry.{Entry}
 use Rattle.multivariant.specs.Streams.{Served, no_tag, streams_in}
 use Rattle.multivariant.specs.Items.{Item}
+use Rattle.multivariant.specs.Rules.{Rule}
+use Rattle.multivariant.specs.Offences.{offence}
 
 -- the tag that was read, or the line that stands for none
 abbrev pub tag_row : Option Line → Row
@@ -27,3 +29,7 @@ StreamStep s r t = MatchOption r (streams_left s ≡ []) (λ x. streams_left s �
 
 abbrev pub item : Entry → Item
 item e = record { id = e.id.now; uri = e.uri.now }
+
+-- what `tells` answers of each line is the line's offence against a rule
+abbrev pub Tells : (tells : Line → Option ℕ → Type 0) (own text : List ℕ) → Rule → Type 0
+Tells tells own text rule = (l : Line) (o : Option ℕ) → tells l o → o ≡ offence own text rule (row l) (rows_at l.next l.waits text)

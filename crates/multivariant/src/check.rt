@@ -1,19 +1,24 @@
 // Whether a text is a legal multivariant playlist with steering.
-ghost use Rattle.std.specs.Prelude.{◌≡◌, false, length, codes};
+ghost use Rattle.std.specs.Prelude.{◌≡◌, ℕ, false, List, length, codes};
 ghost use Rattle.std.specs.Str.{bytes_eq};
 ghost use Rattle.terms.specs.Faults.{outcome};
 ghost use Rattle.terms.specs.Refusals.{number};
 ghost use Rattle.pathways.specs.Rules.{verdict, done, judged};
 ghost use Rattle.tags.specs.Lines.{rows_of};
+ghost use Rattle.multivariant.specs.Rules.{Rule, ListThere, ListSound, NamesApart, ServerQuoted, UriLine, IdLegal, IdQuoted, UriLegal, IdKnown};
 ghost use Rattle.multivariant.specs.Streams.{streams_of};
 ghost use Rattle.multivariant.specs.Offences.{bad_own, bad_length, is_first, bad_header, first, bad_steering, bad_count};
+ghost use Rattle.multivariant.specs.Views.{Tells};
 ghost use Rattle.multivariant.specs.Checks.{outer, form, sense, checked};
 
 use crate::counting::bad_count;
-use crate::offences::first_offence;
-use crate::rule::Rule;
+use crate::kinds::{is_steering, is_stream, is_tag};
+use crate::offences::{bad_id, bad_uri, bare_id, has_quoted_server, is_known, is_served, place_if};
 use crate::steering::bad_steering;
+use crate::tag::list_of;
 use pathways::answering::refuse;
+use tags::attributes::{is_list, repeats_name};
+use tags::line::Line;
 use tags::lines::lines_of;
 use terms::fault::Fault;
 use terms::refusal::Refusal;
@@ -72,11 +77,21 @@ fn check_header(text: &[u8]) -> Result<(), Fault>
     Err(refuse(Refusal::Header, 0))
 }
 
-// The first offence against a rule that holds of each line.
-fn check_lines(own: &[u8], text: &[u8], rule: Rule, refusal: Refusal) -> Result<(), Fault>
-    ensures { done result ≡ verdict (number refusal) (first own.now text.now rule (rows_of text.now)) }
+// Refuses the text at the first of its lines of which `offence` tells a place.
+fn check_lines<F: Fn(Line) -> Option<usize>>(
+    text: &[u8],
+    refusal: Refusal,
+    offence: F,
+) -> Result<(), Fault>
+    requires { F.IsAlwaysCallable offence }
+    ensures { (own : List ℕ) (rule : Rule) → Tells (F.post offence) own text.now rule → done result ≡ verdict (number refusal) (first own text.now rule (rows_of text.now)) }
 {
-    hold(refusal, first_offence(own, text, rule))
+    for line in lines_of(text) {
+        if let Some(place) = offence(line) {
+            return Err(refuse(refusal, place));
+        }
+    }
+    Ok(())
 }
 
 fn check_outer(own: &[u8], text: &[u8]) -> Result<(), Fault>
@@ -93,15 +108,60 @@ fn check_steering(text: &[u8]) -> Result<(), Fault>
     hold(Refusal::Order, bad_steering(text))
 }
 
-fn check_form(own: &[u8], text: &[u8]) -> Result<(), Fault>
-    ensures { done result ≡ judged (form own.now text.now) }
+// A tag has an attribute list.
+fn check_lists_there(text: &[u8]) -> Result<(), Fault>
+    ensures { (own : List ℕ) → done result ≡ verdict 12 (first own text.now ListThere (rows_of text.now)) }
 {
-    check_lines(own, text, Rule::ListThere, Refusal::Structure)?;
-    check_lines(own, text, Rule::ListSound, Refusal::Structure)?;
-    check_lines(own, text, Rule::NamesApart, Refusal::Structure)?;
+    check_lines(text, Refusal::Structure, |line| {
+        place_if(is_tag(line.kind) && list_of(line).is_empty(), line.place)
+    })
+}
+
+// The list has the syntax.
+fn check_lists(text: &[u8]) -> Result<(), Fault>
+    ensures { (own : List ℕ) → done result ≡ verdict 12 (first own text.now ListSound (rows_of text.now)) }
+{
+    check_lines(text, Refusal::Structure, |line| {
+        place_if(is_tag(line.kind) && !is_list(list_of(line)), line.place)
+    })
+}
+
+// No name occurs twice in a list.
+fn check_names(text: &[u8]) -> Result<(), Fault>
+    ensures { (own : List ℕ) → done result ≡ verdict 12 (first own text.now NamesApart (rows_of text.now)) }
+{
+    check_lines(text, Refusal::Structure, |line| {
+        place_if(is_tag(line.kind) && repeats_name(list_of(line)), line.place)
+    })
+}
+
+// A steering tag has a quoted SERVER-URI.
+fn check_servers(text: &[u8]) -> Result<(), Fault>
+    ensures { (own : List ℕ) → done result ≡ verdict 13 (first own text.now ServerQuoted (rows_of text.now)) }
+{
+    check_lines(text, Refusal::Order, |line| {
+        place_if(is_steering(line.kind) && !has_quoted_server(line), line.place)
+    })
+}
+
+// A stream tag has a URI line.
+fn check_uri_lines(text: &[u8]) -> Result<(), Fault>
+    ensures { (own : List ℕ) → done result ≡ verdict 14 (first own text.now UriLine (rows_of text.now)) }
+{
+    check_lines(text, Refusal::StreamWithoutUri, |line| {
+        place_if(is_stream(line.kind) && !is_served(text, line), line.place)
+    })
+}
+
+fn check_form(text: &[u8]) -> Result<(), Fault>
+    ensures { (own : List ℕ) → done result ≡ judged (form own text.now) }
+{
+    check_lists_there(text)?;
+    check_lists(text)?;
+    check_names(text)?;
     check_steering(text)?;
-    check_lines(own, text, Rule::ServerQuoted, Refusal::Order)?;
-    check_lines(own, text, Rule::UriLine, Refusal::StreamWithoutUri)
+    check_servers(text)?;
+    check_uri_lines(text)
 }
 
 fn check_counts(text: &[u8]) -> Result<(), Fault>
@@ -110,14 +170,48 @@ fn check_counts(text: &[u8]) -> Result<(), Fault>
     hold(Refusal::Count, bad_count(text))
 }
 
+// A quoted PATHWAY-ID is a legal ID.
+fn check_ids(text: &[u8]) -> Result<(), Fault>
+    ensures { (own : List ℕ) → done result ≡ verdict 15 (first own text.now IdLegal (rows_of text.now)) }
+{
+    check_lines(text, Refusal::PathwayId, |line| {
+        if is_tag(line.kind) { bad_id(line) } else { None }
+    })
+}
+
+// A PATHWAY-ID is quoted.
+fn check_quotes(text: &[u8]) -> Result<(), Fault>
+    ensures { (own : List ℕ) → done result ≡ verdict 15 (first own text.now IdQuoted (rows_of text.now)) }
+{
+    check_lines(text, Refusal::PathwayId, |line| {
+        if is_tag(line.kind) { bare_id(line) } else { None }
+    })
+}
+
+// References stand for URIs.
+fn check_uris(own: &[u8], text: &[u8]) -> Result<(), Fault>
+    ensures { done result ≡ verdict 16 (first own.now text.now UriLegal (rows_of text.now)) }
+{
+    check_lines(text, Refusal::Uri, |line| bad_uri(own, line))
+}
+
+// The pathway that the steering tag names has a stream.
+fn check_known(text: &[u8]) -> Result<(), Fault>
+    ensures { (own : List ℕ) → done result ≡ verdict 17 (first own text.now IdKnown (rows_of text.now)) }
+{
+    check_lines(text, Refusal::Count, |line| {
+        place_if(is_steering(line.kind) && !is_known(text, line), line.place)
+    })
+}
+
 fn check_sense(own: &[u8], text: &[u8]) -> Result<(), Fault>
     ensures { done result ≡ judged (sense own.now text.now) }
 {
-    check_lines(own, text, Rule::IdLegal, Refusal::PathwayId)?;
-    check_lines(own, text, Rule::IdQuoted, Refusal::PathwayId)?;
-    check_lines(own, text, Rule::UriLegal, Refusal::Uri)?;
+    check_ids(text)?;
+    check_quotes(text)?;
+    check_uris(own, text)?;
     check_counts(text)?;
-    check_lines(own, text, Rule::IdKnown, Refusal::Count)
+    check_known(text)
 }
 
 // The first fault of a playlist, whose own URI is `own`. The rules are gone through one by one, each over the whole text.
@@ -125,6 +219,6 @@ pub fn check(own: &[u8], text: &[u8]) -> Result<(), Fault>
     ensures { outcome result ≡ checked own.now text.now }
 {
     check_outer(own, text)?;
-    check_form(own, text)?;
+    check_form(text)?;
     check_sense(own, text)
 }

@@ -7,7 +7,6 @@ pub mod entry;
 mod kinds;
 pub mod named;
 mod offences;
-pub mod rule;
 pub mod steering;
 pub mod stream;
 pub mod streams;
