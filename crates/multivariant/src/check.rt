@@ -12,12 +12,13 @@ ghost use Rattle.multivariant.specs.Views.{Tells};
 ghost use Rattle.multivariant.specs.Checks.{outer, form, sense, checked};
 
 use crate::counting::bad_count;
-use crate::kinds::{is_steering, is_stream, is_tag};
-use crate::offences::{bad_id, bad_uri, bare_id, has_quoted_server, is_known, is_served, place_if};
+use crate::kinds::is_tag;
+use crate::offences::{bad_id, bad_uri, bare_id, has_quoted_server, is_known, is_served};
 use crate::steering::bad_steering;
 use crate::tag::list_of;
 use pathways::answering::refuse;
 use tags::attributes::{is_list, repeats_name};
+use tags::kind::Kind;
 use tags::line::Line;
 use tags::lines::lines_of;
 use terms::fault::Fault;
@@ -55,17 +56,13 @@ fn check_length(text: &[u8]) -> Result<(), Fault>
     Ok(())
 }
 
-fn is_mark(line: &[u8]) -> bool
-    ensures { result ≡ bytes_eq line.now (codes "#EXTM3U") }
-{
-    line == b"#EXTM3U".as_slice()
-}
-
 // Whether the first line is `#EXTM3U`.
 fn is_headed(text: &[u8]) -> bool
     ensures { result ≡ is_first (rows_of text.now) }
 {
-    lines_of(text).next().is_some_and(|line| is_mark(line.text))
+    lines_of(text)
+        .next()
+        .is_some_and(|line| line.text == b"#EXTM3U".as_slice())
 }
 
 fn check_header(text: &[u8]) -> Result<(), Fault>
@@ -113,7 +110,7 @@ fn check_lists_there(text: &[u8]) -> Result<(), Fault>
     ensures { (own : List ℕ) → done result ≡ verdict 12 (first own text.now ListThere (rows_of text.now)) }
 {
     check_lines(text, Refusal::Structure, |line| {
-        place_if(is_tag(line.kind) && list_of(line).is_empty(), line.place)
+        (is_tag(line.kind) && list_of(line).is_empty()).then_some(line.place)
     })
 }
 
@@ -122,7 +119,7 @@ fn check_lists(text: &[u8]) -> Result<(), Fault>
     ensures { (own : List ℕ) → done result ≡ verdict 12 (first own text.now ListSound (rows_of text.now)) }
 {
     check_lines(text, Refusal::Structure, |line| {
-        place_if(is_tag(line.kind) && !is_list(list_of(line)), line.place)
+        (is_tag(line.kind) && !is_list(list_of(line))).then_some(line.place)
     })
 }
 
@@ -131,7 +128,7 @@ fn check_names(text: &[u8]) -> Result<(), Fault>
     ensures { (own : List ℕ) → done result ≡ verdict 12 (first own text.now NamesApart (rows_of text.now)) }
 {
     check_lines(text, Refusal::Structure, |line| {
-        place_if(is_tag(line.kind) && repeats_name(list_of(line)), line.place)
+        (is_tag(line.kind) && repeats_name(list_of(line))).then_some(line.place)
     })
 }
 
@@ -140,7 +137,7 @@ fn check_servers(text: &[u8]) -> Result<(), Fault>
     ensures { (own : List ℕ) → done result ≡ verdict 13 (first own text.now ServerQuoted (rows_of text.now)) }
 {
     check_lines(text, Refusal::Order, |line| {
-        place_if(is_steering(line.kind) && !has_quoted_server(line), line.place)
+        (line.kind == Kind::Steering && !has_quoted_server(line)).then_some(line.place)
     })
 }
 
@@ -149,7 +146,7 @@ fn check_uri_lines(text: &[u8]) -> Result<(), Fault>
     ensures { (own : List ℕ) → done result ≡ verdict 14 (first own text.now UriLine (rows_of text.now)) }
 {
     check_lines(text, Refusal::StreamWithoutUri, |line| {
-        place_if(is_stream(line.kind) && !is_served(text, line), line.place)
+        (line.kind == Kind::Stream && !is_served(text, line)).then_some(line.place)
     })
 }
 
@@ -175,7 +172,11 @@ fn check_ids(text: &[u8]) -> Result<(), Fault>
     ensures { (own : List ℕ) → done result ≡ verdict 15 (first own text.now IdLegal (rows_of text.now)) }
 {
     check_lines(text, Refusal::PathwayId, |line| {
-        if is_tag(line.kind) { bad_id(line) } else { None }
+        if is_tag(line.kind) {
+            bad_id(line)
+        } else {
+            None
+        }
     })
 }
 
@@ -184,7 +185,11 @@ fn check_quotes(text: &[u8]) -> Result<(), Fault>
     ensures { (own : List ℕ) → done result ≡ verdict 15 (first own text.now IdQuoted (rows_of text.now)) }
 {
     check_lines(text, Refusal::PathwayId, |line| {
-        if is_tag(line.kind) { bare_id(line) } else { None }
+        if is_tag(line.kind) {
+            bare_id(line)
+        } else {
+            None
+        }
     })
 }
 
@@ -200,7 +205,7 @@ fn check_known(text: &[u8]) -> Result<(), Fault>
     ensures { (own : List ℕ) → done result ≡ verdict 17 (first own text.now IdKnown (rows_of text.now)) }
 {
     check_lines(text, Refusal::Count, |line| {
-        place_if(is_steering(line.kind) && !is_known(text, line), line.place)
+        (line.kind == Kind::Steering && !is_known(text, line)).then_some(line.place)
     })
 }
 

@@ -1,6 +1,6 @@
 // Which lines are tags, and how long the names of these are.
 ghost use Rattle.std.specs.Prelude.{◌≡◌, ◌≤◌};
-ghost use Rattle.multivariant.specs.Tags.{is_tag, is_steering, is_stream, name_length};
+ghost use Rattle.multivariant.specs.Tags.{is_tag, name_length};
 
 use tags::kind::Kind;
 
@@ -8,18 +8,6 @@ pub(crate) fn is_tag(kind: Kind) -> bool
     ensures { result ≡ is_tag kind }
 {
     matches!(kind, Kind::Steering | Kind::Stream)
-}
-
-pub(crate) fn is_steering(kind: Kind) -> bool
-    ensures { result ≡ is_steering kind }
-{
-    matches!(kind, Kind::Steering)
-}
-
-pub(crate) fn is_stream(kind: Kind) -> bool
-    ensures { result ≡ is_stream kind }
-{
-    matches!(kind, Kind::Stream)
 }
 
 // How many bytes the name of a tag has, its colon included.

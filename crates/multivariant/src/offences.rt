@@ -1,12 +1,11 @@
 // What single lines of a playlist may offend by.
 ghost use Rattle.std.specs.Prelude.{◌≡◌, ◌+◌, ◌^◌, ◌<◌};
 ghost use Rattle.references.specs.Resolution.{resolved};
-ghost use Rattle.pathways.specs.Rules.{placed};
 ghost use Rattle.tags.specs.Lines.{rows_at};
 ghost use Rattle.tags.specs.Views.{row, found};
 ghost use Rattle.multivariant.specs.Tags.{spot_of, is_quoted_value, server_of, id_of};
 ghost use Rattle.multivariant.specs.Streams.{streams_of};
-ghost use Rattle.multivariant.specs.Offences.{is_served, stands, bad_id, bare_id, bad_value, bad_server, bad_uri, is_known};
+ghost use Rattle.multivariant.specs.Offences.{is_served, stands, bad_id, bare_id, bad_server, bad_uri, is_known};
 
 use crate::kinds::name_length;
 use crate::streams::has_stream;
@@ -51,40 +50,23 @@ pub(crate) fn bad_id(line: Line) -> Option<usize>
     ensures { result ≡ bad_id (row line.entry) (id_of (row line.entry)) }
 {
     let id = id_of(line)?;
-    place_if(
-        is_quoted(id.text) && !is_legal_id(unquote(id.text)),
-        spot_of(line, id),
-    )
+    let illegal = is_quoted(id.text) && !is_legal_id(unquote(id.text));
+    illegal.then_some(spot_of(line, id))
 }
 
 pub(crate) fn bare_id(line: Line) -> Option<usize>
     ensures { result ≡ bare_id (row line.entry) (id_of (row line.entry)) }
 {
     let id = id_of(line)?;
-    place_if(!is_quoted(id.text), spot_of(line, id))
-}
-
-pub(crate) fn place_if(test: bool, place: usize) -> Option<usize>
-    ensures { result ≡ placed test place }
-{
-    test.then_some(place)
+    (!is_quoted(id.text)).then_some(spot_of(line, id))
 }
 
 // A SERVER-URI that stands for no URI.
-fn bad_value(own: &[u8], line: Line, server: Value) -> Option<usize>
-    requires { line.place + 24 + server.place < 2 ^ 64 }
-    ensures { result ≡ bad_value own.now (row line.entry) (found server.entry) }
-{
-    place_if(
-        !is_standing(own, unquote(server.text)),
-        spot_of(line, server),
-    )
-}
-
 fn bad_server(own: &[u8], line: Line) -> Option<usize>
     ensures { result ≡ bad_server own.now (row line.entry) (server_of (row line.entry)) }
 {
-    bad_value(own, line, server_of(line)?)
+    let server = server_of(line)?;
+    (!is_standing(own, unquote(server.text))).then_some(spot_of(line, server))
 }
 
 pub(crate) fn bad_uri(own: &[u8], line: Line) -> Option<usize>
@@ -92,7 +74,7 @@ pub(crate) fn bad_uri(own: &[u8], line: Line) -> Option<usize>
 {
     match line.kind {
         Kind::Steering => bad_server(own, line),
-        Kind::Uri => place_if(!is_standing(own, line.text), line.place),
+        Kind::Uri => (!is_standing(own, line.text)).then_some(line.place),
         Kind::Stream | Kind::Other => None,
     }
 }

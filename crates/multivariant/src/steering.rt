@@ -9,9 +9,9 @@ ghost use Rattle.multivariant.specs.Items.{steering_of, inner_of, server_text};
 ghost use Rattle.multivariant.specs.Views.{tag_row};
 ghost use Rattle.multivariant.specs.Offences.{bad_steering};
 
-use crate::kinds::is_steering;
 use crate::named::Steering;
 use crate::tag::{id_of, server_of, unquote};
+use tags::kind::Kind;
 use tags::line::Line;
 use tags::lines::lines_of;
 use tags::value::Value;
@@ -20,7 +20,7 @@ use tags::value::Value;
 fn steering_tag(text: &[u8]) -> Option<Line<'_>>
     ensures { tag_row result ≡ steering_in (rows_of text.now) }
 {
-    lines_of(text).find(|line| is_steering(line.kind))
+    lines_of(text).find(|line| line.kind == Kind::Steering)
 }
 
 // What stands between the quotes of a value, if there is one.
@@ -48,10 +48,10 @@ pub(crate) fn bad_steering(text: &[u8]) -> Option<usize>
 {
     let mut seen = false;
     for line in lines_of(text) {
-        if is_steering(line.kind) && seen {
+        if line.kind == Kind::Steering && seen {
             return Some(line.place);
         }
-        seen = is_steering(line.kind) || seen;
+        seen = line.kind == Kind::Steering || seen;
     }
     if seen { None } else { Some(text.len()) }
 }

@@ -18,8 +18,7 @@ loop-before-init c =
     let text = c.args.text.now in
     let into = c.into_iter-before-iterator.ensures.into_iter_gives in
     let none = ap enumerate_count into ∙ c.enumerate-before-items.ensures.count in
-    let all = ap (λ s. streams_left (enumerate_source s)) into ∙ ap streams_left c.enumerate-before-items.ensures.source ∙ c.streams_of.ensures in
-    (
+    let all = ap (λ s. streams_left (enumerate_source s)) into ∙ ap streams_left c.enumerate-before-items.ensures.source ∙ c.streams_of.ensures in (
       ap (overrun 0 []) (sym all) ∙ ap (λ (n : ℕ). overrun 0 (take n (streams_of text)) (streams_left (enumerate_source c.into_iter-before-iterator.result))) (sym none),
       ap (λ (n : ℕ). drop n (streams_of text)) none ∙ sym all,
       omega arith,
@@ -47,8 +46,7 @@ loop-before-preserved c =
     let same = c.count_streams-same.ensures ∙ ap (λ id. count_of id (take c.in-Some.before all)) c.pathway_of.ensures ∙ ap (λ (n : ℕ). count_of (pathway_of (served c.in-Some.stream)) (take n all)) at in
     let (value, rest, few) =
     overrun_again all (streams_left (enumerate_source it)) left (served c.in-Some.stream) (enumerate_count it) c.loop-before.pathways
-    c.count_streams-same.result c.loop-before.invariant.0 step c.loop-before.invariant.1 same c.pathways_now-pathways.result c.loop-before.invariant.2 (sym c.if-is_excess.ensures) c.pathways_now-pathways.ensures in
-    (
+    c.count_streams-same.result c.loop-before.invariant.0 step c.loop-before.invariant.1 same c.pathways_now-pathways.result c.loop-before.invariant.2 (sym c.if-is_excess.ensures) c.pathways_now-pathways.ensures in (
       value ∙ ap (λ (n : ℕ). overrun c.pathways_now-pathways.result (take n all) left) (sym on),
       ap (λ (n : ℕ). drop n all) on ∙ rest,
       omega (arith, few, on),
