@@ -1,4 +1,3 @@
-pub mod Adding
 pub mod StandIn
 pub mod Looking
 pub mod Answering

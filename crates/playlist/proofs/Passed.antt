@@ -15,8 +15,7 @@ use Rattle.tags.specs.declared.kind.Kind.{Kind}
 use Rattle.tags.specs.declared.kind.Kind.TheVariants.{Steering, Stream, Uri, Other}
 use Rattle.tags.specs.Lines.{Row}
 use Rattle.tags.specs.Attributes.{Found, is_quoted, unquoted, or_nothing}
-use Rattle.multivariant.specs.declared.rule.Rule.{Rule}
-use Rattle.multivariant.specs.declared.rule.Rule.TheVariants.{ServerQuoted, IdLegal, IdQuoted, UriLegal, IdKnown}
+use Rattle.multivariant.specs.Rules.{Rule, ServerQuoted, IdLegal, IdQuoted, UriLegal, IdKnown}
 use Rattle.multivariant.specs.Tags.{is_steering, id_of, server_of, named, is_quoted_value}
 use Rattle.multivariant.specs.Streams.{Served, no_tag, streams_in, streams_of, pathway_of, steering_in}
 use Rattle.multivariant.specs.Offences.{stands, bad_id, bare_id, bad_server, bad_uri, is_known, if_tag, offence, or_else, first, bad_steering}

@@ -13,7 +13,7 @@ use Rattle.pathways.specs.Limits.{legal_id, Different, LawfulPathway, Lawful, De
 use Rattle.pathways.specs.Rules.{Rule, judged, and_then}
 use Rattle.tags.specs.Lines.{rows_of}
 use Rattle.tags.specs.Attributes.{Found, unquoted}
-use Rattle.multivariant.specs.declared.rule.Rule.TheVariants.{ServerQuoted, UriLegal}
+use Rattle.multivariant.specs.Rules.{ServerQuoted, UriLegal}
 use Rattle.multivariant.specs.Tags.{server_of, id_of}
 use Rattle.multivariant.specs.Streams.{Served, no_tag, streams_of, pathway_of, is_of, has_stream, count_of}
 use Rattle.multivariant.specs.Offences.{is_known, first, bad_steering, overrun, bad_count}

@@ -1,5 +1,6 @@
 -- What a playlist describes. Assumes nothing.
-use Rattle.std.specs.Prelude.{ℕ, Bool, false, cond, ◌||◌, List, [], ◌∷◌, ◌++◌, map}
+use Rattle.std.specs.Prelude.{ℕ, Bool, false, cond, ◌||◌, List, [], ◌∷◌, ◌++◌, map, Some, None, Option}
+use Rattle.std.specs.List.{list_any}
 use Rattle.std.specs.Str.{bytes_eq}
 use Rattle.uri.specs.Splits.{without_fragment}
 use Rattle.references.specs.Resolution.{resolved}
@@ -7,7 +8,7 @@ use Rattle.pathways.specs.declared.dialect.Dialect.TheVariants.{Hls}
 use Rattle.pathways.specs.Meaning.{Pathway, Meaning}
 use Rattle.tags.specs.Attributes.{or_nothing}
 use Rattle.multivariant.specs.Tags.{server_of, id_of}
-pub use Rattle.multivariant.specs.Items.{Item, item_of, items_of, steering_of, foremost, server_text}
+pub use Rattle.multivariant.specs.Items.{Item, item_of, items_of, steering_of, inner_of, foremost, server_text}
 
 -- the IDs of streams, and their URI lines
 abbrev pub ids_in : List Item → List (List ℕ)
@@ -18,8 +19,7 @@ uris_in items = map (λ x. x.uri) items
 
 -- whether an ID is one of those
 abbrev pub is_among : List ℕ → List (List ℕ) → Bool
-is_among id [] = false
-is_among id (x ∷ xs) = bytes_eq x id || is_among id xs
+is_among id ids = list_any (λ x. bytes_eq x id) ids
 
 -- an ID that is new comes last
 abbrev pub joining : List ℕ → List (List ℕ) → List (List ℕ)
@@ -29,6 +29,11 @@ joining id ids = cond (is_among id ids) ids (ids ++ id ∷ [])
 abbrev pub in_order : (ids : List (List ℕ)) → List Item → List (List ℕ)
 in_order ids [] = ids
 in_order ids (x ∷ xs) = in_order (joining x.id ids) xs
+
+-- the list of what is there
+abbrev pub only : Option (List ℕ) → List (List ℕ)
+only None = []
+only (Some id) = id ∷ []
 
 abbrev pub order_of : List ℕ → List (List ℕ)
 order_of text = in_order (foremost (id_of (steering_of text))) (items_of text)

@@ -3,7 +3,7 @@ ghost use Rattle.std.specs.Prelude.{◌≡◌, true, map, is_ok};
 ghost use Rattle.multivariant.specs.Checks.{checked};
 ghost use Rattle.multivariant.specs.Tags.{server_of};
 ghost use Rattle.playlist.specs.Items.{items_of, ids_in, uris_in, order_of, steering_of, server_text};
-ghost use Rattle.multivariant.specs.Spans.{sliced, name_in, item_in};
+ghost use Rattle.multivariant.specs.Views.{item};
 
 mod indexing;
 mod lookups;
@@ -12,7 +12,6 @@ mod ordering;
 mod questions;
 
 use multivariant::entry::Entry;
-use multivariant::span::Span;
 use pathways::dialect::Dialect;
 
 #[derive(Drop)]
@@ -20,12 +19,12 @@ pub struct Playlist<'a> {
     dialect: Dialect,
     own: &'a [u8],
     text: &'a [u8],
-    server: Span,
-    order: Vec<Option<Span>>,
-    index: Vec<Entry>,
+    server: &'a [u8],
+    order: Vec<&'a [u8]>,
+    index: Vec<Entry<'a>>,
     ghost sound: { is_ok (checked own.now text.now) ≡ true },
-    ghost steers: { sliced text.now server ≡ server_text (server_of (steering_of text.now)) },
-    ghost ordered: { map (name_in text.now) order.items ≡ order_of text.now },
-    ghost names: { ids_in (map (item_in text.now) index.items) ≡ ids_in (items_of text.now) },
-    ghost uris: { uris_in (map (item_in text.now) index.items) ≡ uris_in (items_of text.now) },
+    ghost steers: { server.now ≡ server_text (server_of (steering_of text.now)) },
+    ghost ordered: { map (λ x. x.now) order.items ≡ order_of text.now },
+    ghost names: { ids_in (map item index.items) ≡ ids_in (items_of text.now) },
+    ghost uris: { uris_in (map item index.items) ≡ uris_in (items_of text.now) },
 }

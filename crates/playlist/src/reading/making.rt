@@ -53,7 +53,7 @@ fn open<'a>(heap: Global, source: Source<'a>) -> Result<Playlist<'a>, AllocError
     let text = source.text;
     let Steering { server, id } = steering_of(text);
     let index = index_of(heap, text)?;
-    let order = order_of(heap, text, id, index.as_slice())?;
+    let order = order_of(heap, id, index.as_slice())?;
     Ok(Playlist {
         dialect: source.dialect,
         own: source.own,

@@ -1,84 +1,57 @@
 // The order of the pathways: the steering tag's own first, the others as they first appear.
 ghost use Rattle.std.specs.Prelude.{◌≡◌, [], ◌∷◌, ◌++◌, map, IfOk, OnOk};
+ghost use Rattle.std.specs.Option.{option_map};
 ghost use Rattle.std.specs.Str.{bytes_eq};
-ghost use Rattle.playlist.specs.Items.{is_among, joining, in_order};
-ghost use Rattle.multivariant.specs.Spans.{name_in, names_in, item_in};
+ghost use Rattle.multivariant.specs.Views.{item};
+ghost use Rattle.playlist.specs.Items.{is_among, joining, in_order, only};
 
-use super::indexing::name_at;
 use multivariant::entry::Entry;
-use multivariant::span::Span;
 use std::alloc::{AllocError, Global};
 
-// Whether a span, or that there is none, gives the ID of that name.
-pub(crate) fn is_same(text: &[u8], id: Option<Span>, name: &[u8]) -> bool
-    ensures { result ≡ bytes_eq (name_in text.now id) name.now }
+fn same_id(left: &[u8], right: &[u8]) -> bool
+    ensures { result ≡ bytes_eq left.now right.now }
 {
-    name_at(text, id) == name
+    left == right
 }
 
-fn is_among(text: &[u8], order: &[Option<Span>], name: &[u8]) -> bool
-    ensures { result ≡ is_among name.now (map (name_in text.now) order.now) }
+fn is_among(order: &[&[u8]], id: &[u8]) -> bool
+    ensures { result ≡ is_among id.now (map (λ x. x.now) order.now) }
 {
-    for id in order {
-        if is_same(text, *id, name) {
-            return true;
-        }
-    }
-    false
-}
-
-// Adds an ID to the order.
-fn append(text: &[u8], order: &mut Vec<Option<Span>>, id: Option<Span>) -> Result<(), AllocError>
-    ensures { OnOk result (map (name_in text.now) order.new.items ≡ map (name_in text.now) order.old.items ++ name_in text.now id ∷ []) }
-{
-    order.push(id)?;
-    Ok(())
+    order.iter().any(|known| same_id(known, id))
 }
 
 // Adds an ID that is new to the order.
-fn join(text: &[u8], order: &mut Vec<Option<Span>>, id: Option<Span>) -> Result<(), AllocError>
-    ensures { OnOk result (map (name_in text.now) order.new.items ≡ joining (name_in text.now id) (map (name_in text.now) order.old.items)) }
+fn join<'a>(order: &mut Vec<&'a [u8]>, id: &'a [u8]) -> Result<(), AllocError>
+    ensures { OnOk result (map (λ x. x.now) order.new.items ≡ joining id.now (map (λ x. x.now) order.old.items)) }
 {
-    if is_among(text, order.as_slice(), name_at(text, id)) {
-        return Ok(());
+    if !is_among(order.as_slice(), id) {
+        order.push(id)?;
     }
-    append(text, order, id)
+    Ok(())
 }
 
 // The order begins with the pathway that the steering tag names, if it names one.
-fn begin(heap: Global, text: &[u8], first: Option<Span>) -> Result<Vec<Option<Span>>, AllocError>
-    ensures { IfOk result (λ v. map (name_in text.now) v.items ≡ names_in text.now first) }
+fn begin<'a>(heap: Global, first: Option<&'a [u8]>) -> Result<Vec<&'a [u8]>, AllocError>
+    ensures { IfOk result (λ v. map (λ x. x.now) v.items ≡ only (option_map (λ x. x.now) first.entry)) }
 {
     let mut order = Vec::new(heap);
-    if first.is_some() {
-        append(text, &mut order, first)?;
+    if let Some(id) = first {
+        order.push(id)?;
     }
     Ok(order)
 }
 
-// Adds the pathways of the streams in an index as they first appear.
-fn complete(
-    text: &[u8],
-    begun: Vec<Option<Span>>,
-    index: &[Entry],
-) -> Result<Vec<Option<Span>>, AllocError>
-    ensures { IfOk result (λ v. map (name_in text.now) v.items ≡ in_order (map (name_in text.now) begun.items) (map (item_in text.now) index.now)) }
-{
-    let mut order = begun;
-    for entry in index {
-        join(text, &mut order, entry.id)?;
-    }
-    Ok(order)
-}
-
-// The order of all pathways.
-pub(crate) fn order_of(
+// The order of all pathways: those of the streams in an index are added as they first appear.
+pub(crate) fn order_of<'a>(
     heap: Global,
-    text: &[u8],
-    first: Option<Span>,
-    index: &[Entry],
-) -> Result<Vec<Option<Span>>, AllocError>
-    ensures { IfOk result (λ v. map (name_in text.now) v.items ≡ in_order (names_in text.now first) (map (item_in text.now) index.now)) }
+    first: Option<&'a [u8]>,
+    index: &[Entry<'a>],
+) -> Result<Vec<&'a [u8]>, AllocError>
+    ensures { IfOk result (λ v. map (λ x. x.now) v.items ≡ in_order (only (option_map (λ x. x.now) first.entry)) (map item index.now)) }
 {
-    complete(text, begin(heap, text, first)?, index)
+    let mut order = begin(heap, first)?;
+    for entry in index {
+        join(&mut order, entry.id)?;
+    }
+    Ok(order)
 }

@@ -10,15 +10,13 @@ ghost use Rattle.pathways.specs.Limits.{Lawful, Described};
 ghost use Rattle.pathways.specs.Questions.{numbered, id_of, members_of, member_of};
 ghost use Rattle.tags.specs.Attributes.{or_nothing};
 ghost use Rattle.playlist.specs.Items.{items_of, order_of};
-ghost use Rattle.multivariant.specs.Spans.{name_in, item_in};
+ghost use Rattle.multivariant.specs.Views.{item};
 ghost use Rattle.playlist.specs.Lookups.{nth_in};
 ghost use Rattle.playlist.specs.Playlists.{playlist_pathways, playlist_meaning};
 
 use super::Playlist;
-use super::indexing::slice;
-use super::lookups::{count_for, nth_name, target_for, uri_for};
+use super::lookups::{count_streams, nth_id, nth_uri};
 use multivariant::entry::Entry;
-use multivariant::span::Span;
 use pathways::answering::{hand_out, no_such_number};
 use pathways::description::Description;
 use pathways::dialect::Dialect;
@@ -32,45 +30,46 @@ use uri::splitting::without_fragment;
 
 impl<'a> Playlist<'a> {
     // The IDs of the pathways in their order, with what follows from the check.
-    fn names(&self) -> &[Option<Span>]
-        ensures order { map (name_in self.now.text.now) result.now ≡ order_of self.now.text.now }
+    fn ids(&self) -> &[&[u8]]
+        ensures order { map (λ x. x.now) result.now ≡ order_of self.now.text.now }
         ensures lawful { Lawful (playlist_pathways self.now) }
     {
         self.order.as_slice()
     }
 
-    fn count_names(&self) -> usize
+    fn count_ids(&self) -> usize
         ensures value { result ≡ length (playlist_pathways self.now) }
         ensures lawful { Lawful (playlist_pathways self.now) }
     {
-        self.names().len()
+        self.ids().len()
     }
 
     // The index.
-    fn streams(&self) -> &[Entry]
-        ensures { map (item_in self.now.text.now) result.now ≡ items_of self.now.text.now }
+    fn streams(&self) -> &[Entry<'_>]
+        ensures { map item result.now ≡ items_of self.now.text.now }
     {
         self.index.as_slice()
     }
 
     // The ID of the pathway of a number, where there is one.
-    fn name_of(&self, number: usize) -> Option<&[u8]>
-        ensures name { option_map (λ x. x.now) result ≡ nth_in (order_of self.now.text.now) number }
+    fn numbered(&self, number: usize) -> Option<&[u8]>
+        ensures id { option_map (λ x. x.now) result ≡ nth_in (order_of self.now.text.now) number }
         ensures lawful { Lawful (playlist_pathways self.now) }
     {
-        nth_name(self.text, self.names(), number)
+        nth_id(self.ids(), number)
     }
 
     fn id_at(&self, number: usize) -> Option<&[u8]>
         ensures { option_map (λ x. x.now) result ≡ id_of (numbered (playlist_pathways self.now) number) }
     {
-        self.name_of(number)
+        self.numbered(number)
     }
 
     fn members_at(&self, number: usize) -> Option<usize>
         ensures { result ≡ members_of (numbered (playlist_pathways self.now) number) }
     {
-        count_for(self.text, self.streams(), self.name_of(number))
+        let id = self.numbered(number)?;
+        Some(count_streams(self.streams(), id))
     }
 
     // The dialect, with what follows from the check.
@@ -86,14 +85,14 @@ impl<'a> Playlist<'a> {
         ensures value { without_fragment (or_nothing (option_map content result)) ≡ (playlist_meaning self.now).steering }
         ensures described { Described (playlist_meaning self.now) (playlist_pathways self.now) }
     {
-        resolve(self.own, slice(self.text, self.server))
+        resolve(self.own, self.server)
     }
 
     fn member_at(&self, number: usize, member: usize) -> Option<Text<512>>
         ensures { option_map content result ≡ member_of (numbered (playlist_pathways self.now) number) member }
     {
-        let name = self.name_of(number);
-        target_for(self.own, uri_for(self.text, self.streams(), name, member))
+        let id = self.numbered(number)?;
+        resolve(self.own, nth_uri(self.streams(), id, member)?)
     }
 }
 
@@ -111,7 +110,7 @@ impl<'a> Pathways for Playlist<'a> {
     ghost pathways = { playlist_pathways };
 
     fn count(&self) -> usize {
-        self.count_names()
+        self.count_ids()
     }
 
     fn id(&self, number: usize, buffer: &mut [u8]) -> Result<usize, Fault> {
@@ -119,10 +118,7 @@ impl<'a> Pathways for Playlist<'a> {
     }
 
     fn members(&self, number: usize) -> Result<usize, Fault> {
-        match self.members_at(number) {
-            Some(count) => Ok(count),
-            None => Err(no_such_number()),
-        }
+        self.members_at(number).ok_or(no_such_number())
     }
 
     fn member(&self, number: usize, member: usize, buffer: &mut [u8]) -> Result<usize, Fault> {

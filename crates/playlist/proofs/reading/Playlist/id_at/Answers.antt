@@ -5,5 +5,5 @@ use Rattle.playlist.proofs.reading.Playlist.id_at.Goals as goal
 
 pub returns : goal.returns
 returns c =
-    c.name_of.ensures.name
+    c.numbered.ensures.id
     ∙ id_by c.args.self.now.own.now (items_of c.args.self.now.text.now) (order_of c.args.self.now.text.now) c.args.number

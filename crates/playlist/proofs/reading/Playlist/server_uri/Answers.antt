@@ -10,6 +10,6 @@ returns c =
     record {
       value =
           ap (λ (o : Option (List ℕ)). without_fragment (or_nothing o)) c.resolve.ensures.value
-          ∙ ap (steering_for c.args.self.now.own.now) (c.slice.ensures ∙ c.args.self.now.steers);
+          ∙ ap (steering_for c.args.self.now.own.now) c.args.self.now.steers;
       described = sound_described c.args.self.now.own.now c.args.self.now.text.now c.args.self.now.sound c.args.self.now.dialect;
     }

@@ -1,28 +1,12 @@
-use Rattle.std.proofs.Common.{sym, arith}
-use Rattle.playlist.proofs.Looking.{count_yes, count_no, count_end}
+use Rattle.std.proofs.Common.{rules, ◌∙◌}
+use Rattle.std.proofs.lemmas.Iterator.{YieldsList-from_slice}
+use Rattle.std.proofs.lemmas.Iterator.Consumers.{YieldsList-at, YieldsList-from_filter, count_from_yields_List}
+use borrow.Author.Tests.{tests}
+use Rattle.playlist.proofs.Looking.{belongs, counted}
 use Rattle.playlist.proofs.reading.lookups.count_streams.Goals as goal
 
-pub loop-entry-preserved : goal.loop-entry-preserved
-loop-entry-preserved c = elim c.if-is_same.branch [
-  | goal.then-is_same w ↦ (
-    omega (
-      arith,
-      c.loop-entry.invariant.0,
-      w.count-is,
-      count_yes c.args.text.now c.args.name.now c.args.index.now c.loop-entry.entry-index _ c.loop-entry-test.true (sym w.if-is_same.ensures),
-    ),
-    omega (arith, c.loop-entry.invariant.1, w.count-is),
-  )
-  | goal.else-is_same w ↦ (
-    omega (
-      arith,
-      c.loop-entry.invariant.0,
-      w.count-is,
-      count_no c.args.text.now c.args.name.now c.args.index.now c.loop-entry.entry-index _ c.loop-entry-test.true (sym w.if-is_same.ensures),
-    ),
-    omega (arith, c.loop-entry.invariant.1, w.count-is),
-  )
-]
-
 pub returns : goal.returns
-returns c = omega (arith, c.loop-entry.invariant.0, count_end c.args.text.now c.args.name.now c.args.index.now c.loop-entry.entry-index c.loop-entry-test.false)
+returns c =
+    count_from_yields_List c.filter.result c.count.result c.count.ensures.ran
+    (YieldsList-from_filter _ (belongs c.args.id.now) (YieldsList-at c.filter.ensures.source (YieldsList-from_slice c.args.index.now cc)) c.filter.ensures.closure (λ x r q k. search (rules, tests)))
+    ∙ counted c.args.id.now c.args.index.now

@@ -1,23 +1,16 @@
-use Rattle.std.proofs.Common.{ℕ, ◌+◌, map, drop, Some, sym, ap, ◌∙◌, arith}
-use Rattle.multivariant.specs.Spans.{item_in}
-use Rattle.playlist.specs.Lookups.{uri_in}
-use Rattle.playlist.proofs.Looking.{uri-here, uri-later, uri-past, uri-end}
+use Rattle.std.proofs.Common.{◌≡◌, Bor, rules, ap, ◌∙◌}
+use Rattle.std.proofs.lemmas.Iterator.{YieldsList-from_slice}
+use Rattle.std.proofs.lemmas.Iterator.Consumers.{YieldsList-at, YieldsList-from_filter, nth_from_yields_List}
+use Rattle.std.specs.Option.{option_map}
+use borrow.Author.Tests.{tests}
+use Rattle.multivariant.specs.declared.entry.Entry.{Entry}
+use Rattle.playlist.proofs.Looking.{belongs, found}
 use Rattle.playlist.proofs.reading.lookups.nth_uri.Goals as goal
 
-pub returns-then-left-eq0 : goal.returns-then-left-eq0
-returns-then-left-eq0 c =
-    ap Some c.slice.ensures
-    ∙ sym (c.loop-entry.invariant ∙ uri-here c.args.text.now c.args.name.now c.args.index.now c.loop-entry.entry-index _ c.loop-entry-test.true c.loop-entry.left (sym c.if-is_same.ensures) c.if-left-eq0.true)
-
-pub loop-entry-preserved : goal.loop-entry-preserved
-loop-entry-preserved c = c.loop-entry.invariant ∙ elim c.if-is_same.branch [
-  | goal.then-is_same+else-left-eq0 w ↦
-      uri-later c.args.text.now c.args.name.now c.args.index.now c.loop-entry.entry-index _ c.loop-entry-test.true c.loop-entry.left (sym w.if-is_same.ensures) (omega (arith, w.if-left-eq0.false))
-      ∙ ap (λ (n : ℕ). uri_in c.args.name.now n (map (item_in c.args.text.now) (drop (c.loop-entry.entry-index + 1) c.args.index.now))) (sym w.left-is)
-  | goal.else-is_same w ↦
-      uri-past c.args.text.now c.args.name.now c.args.index.now c.loop-entry.entry-index _ c.loop-entry-test.true c.loop-entry.left (sym w.if-is_same.ensures)
-      ∙ ap (λ (n : ℕ). uri_in c.args.name.now n (map (item_in c.args.text.now) (drop (c.loop-entry.entry-index + 1) c.args.index.now))) (sym w.left-is)
-]
-
 pub returns : goal.returns
-returns c = sym (c.loop-entry.invariant ∙ uri-end c.args.text.now c.args.name.now c.args.index.now c.loop-entry.entry-index c.loop-entry.left c.loop-entry-test.false)
+returns c =
+    let nth =
+    nth_from_yields_List c.nth.result _ c.args.number c.nth.ensures.ran
+    (YieldsList-from_filter _ (belongs c.args.id.now) (YieldsList-at c.filter.ensures.source (YieldsList-from_slice c.args.index.now cc)) c.filter.ensures.closure (λ x r q k. search (rules, tests))) in
+    let seen : option_map (λ x. x.now) c.map.result ≡ option_map (λ (e : Entry). e.uri.now) (option_map (λ (x : Bor Entry). x.now) c.nth.result) = search rules in
+    seen ∙ ap (option_map (λ (e : Entry). e.uri.now)) nth ∙ found c.args.id.now c.args.index.now c.args.number

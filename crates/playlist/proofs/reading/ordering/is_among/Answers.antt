@@ -1,25 +1,12 @@
-use Rattle.std.proofs.Common.{ℕ, ◌+◌, Bool, ◌||◌, List, map, drop, Option, sym, ap, ◌∙◌}
-use Rattle.std.proofs.lemmas.List.{at_drop_more, at_drop_all}
-use Rattle.multivariant.specs.declared.span.Span.{Span}
-use Rattle.playlist.specs.Items.{is_among}
-use Rattle.multivariant.specs.Spans.{name_in}
+use Rattle.std.proofs.Common.{ℕ, List, Bor, rules, ◌∙◌}
+use Rattle.std.proofs.lemmas.Iterator.{YieldsList-from_slice}
+use Rattle.std.proofs.lemmas.Iterator.Search.{any_from_yields_List}
+use Rattle.std.specs.Str.{bytes_eq}
+use borrow.Author.Tests.{tests}
+use Rattle.playlist.proofs.Looking.{any_seen}
 use Rattle.playlist.proofs.reading.ordering.is_among.Goals as goal
 
-abbrev among : List ℕ → List ℕ → List (Option Span) → Bool
-among text name order = is_among name (map (name_in text) order)
-
-pub returns-then-is_same : goal.returns-then-is_same
-returns-then-is_same c = sym (
-    c.loop-id.invariant
-    ∙ at_drop_more (among c.args.text.now c.args.name.now) c.args.order.now c.loop-id.id-index _ c.loop-id-test.true
-    ∙ ap (λ (b : Bool). b || among c.args.text.now c.args.name.now (drop (c.loop-id.id-index + 1) c.args.order.now)) (sym c.if-is_same.ensures)
-    )
-
-pub loop-id-preserved : goal.loop-id-preserved
-loop-id-preserved c =
-    c.loop-id.invariant
-    ∙ at_drop_more (among c.args.text.now c.args.name.now) c.args.order.now c.loop-id.id-index _ c.loop-id-test.true
-    ∙ ap (λ (b : Bool). b || among c.args.text.now c.args.name.now (drop (c.loop-id.id-index + 1) c.args.order.now)) (sym c.if-is_same.ensures)
-
 pub returns : goal.returns
-returns c = sym (c.loop-id.invariant ∙ at_drop_all (among c.args.text.now c.args.name.now) c.args.order.now c.loop-id.id-index c.loop-id-test.false)
+returns c =
+    any_from_yields_List (λ (x : Bor (List ℕ)). bytes_eq x.now c.args.id.now) _ _ c.any.result c.any.ensures.ran (YieldsList-from_slice c.args.order.now cc) (λ x b q k. search (rules, tests))
+    ∙ any_seen (λ (x : Bor (List ℕ)). x.now) (λ x. bytes_eq x c.args.id.now) c.args.order.now
