@@ -1,10 +1,8 @@
 -- What the ID question answers where its number is there and the buffer is long enough. Assumes nothing.
-use Rattle.std.proofs.Common.{◌≡◌, ℕ, ◌-◌, ◌<◌, ◌≤◌, true, false, ltb, leb, List, ◌++◌, length, get_or, take, drop, Some, None, Ok, Err, Option, Result, ap, ◌∙◌, arith}
-use Rattle.std.specs.Str.{bytes_eq}
+use Rattle.std.proofs.Common.{◌≡◌, ℕ, ◌-◌, ◌<◌, ◌≤◌, true, ltb, leb, List, ◌++◌, length, get_or, take, drop, Some, None, Ok, Err, Option, Result, ap, ◌∙◌, arith}
 use Rattle.std.proofs.ByRecursion.{All-get_or}
-use Rattle.std.proofs.lemmas.Slice.Eq.{bytes_eq-Decides}
 use Rattle.std.proofs.lemmas.List.{take_at}
-use Rattle.std.proofs.lemmas.Bool.{cond-true, lt-ltb, le-leb, leb-true, and_parts, cases_Bool}
+use Rattle.std.proofs.lemmas.Bool.{cond-true, lt-ltb, le-leb, leb-true, and_parts}
 use Rattle.terms.specs.Classes.{every, name_byte}
 use Rattle.terms.specs.declared.layer.Layer.TheVariants.{Set}
 use Rattle.terms.specs.Faults.{Told}
@@ -45,6 +43,3 @@ module _ (ps : List Pathway) (n : ℕ) (lawful : Lawful ps) (inside : n < length
         let p : ◌≡◌ {A = Result ℕ Told} (Err t) (Ok (length id)) = ap (λ (r : Reply). r.result) whole in
         let z : ◌≡◌ {A = ℕ} 0 1 = cc in
         omega arith
-
-pub not_same : (xs ys : List ℕ) → false ≡ bytes_eq xs ys → xs ≡ ys → ⊥
-not_same xs ys e p = let q : false ≡ true = e ∙ (bytes_eq-Decides xs ys).1 p in Rattle.std.proofs.lemmas.Bool.false≢true q

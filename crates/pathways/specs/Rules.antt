@@ -1,5 +1,5 @@
 -- The rules of a description's text, one after the other: the first that is broken decides. Assumes nothing.
-use Rattle.std.specs.Prelude.{ℕ, Bool, cond, List, [], ◌∷◌, Some, None, Ok, Err, Option, Result}
+use Rattle.std.specs.Prelude.{ℕ, Bool, cond, ◌||◌, List, [], ◌∷◌, length, Some, None, Ok, Err, Option, Result, ◌==◌, nat_lt}
 use Rattle.terms.specs.declared.layer.Layer.TheVariants.{Description}
 use Rattle.terms.specs.declared.fault.Fault.{Fault}
 use Rattle.terms.specs.Faults.{Told, told}
@@ -7,6 +7,10 @@ use Rattle.terms.specs.Faults.{Told, told}
 -- the place, where the test is met
 abbrev pub placed : Bool → ℕ → Option ℕ
 placed b p = cond b (Some p) None
+
+-- no byte, or more than 65,535
+abbrev pub bad_length : List ℕ → Option ℕ
+bad_length text = placed (length text == 0 || nat_lt 65535 (length text)) 0
 
 -- a refusal's number, and the first offence that it is for
 pub record Rule : Type 0 where

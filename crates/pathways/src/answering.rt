@@ -5,7 +5,9 @@ ghost use Rattle.terms.specs.declared.layer.Layer.TheVariants.{Description, Set}
 ghost use Rattle.terms.specs.Faults.{told, outcome};
 ghost use Rattle.terms.specs.Refusals.{number};
 ghost use Rattle.pathways.specs.Questions.{handed_out};
+ghost use Rattle.pathways.specs.Rules.{verdict, done, bad_length};
 
+use crate::limits::TEXT_BYTES;
 use terms::copying::copy_out;
 use terms::fault::Fault;
 use terms::layer::Layer;
@@ -20,6 +22,26 @@ pub fn refuse(refusal: Refusal, place: usize) -> Fault
         place,
         layer: Layer::Description,
     }
+}
+
+// Refuses the text where an offence was found: at its place.
+pub fn hold(refusal: Refusal, offence: Option<usize>) -> Result<(), Fault>
+    ensures { done result ≡ verdict (number refusal) offence }
+{
+    match offence {
+        Some(place) => Err(refuse(refusal, place)),
+        None => Ok(()),
+    }
+}
+
+// Refuses a text that is empty or too long.
+pub fn check_length(text: &[u8]) -> Result<(), Fault>
+    ensures { done result ≡ verdict 10 (bad_length text.now) }
+{
+    if text.is_empty() || text.len() > TEXT_BYTES {
+        return Err(refuse(Refusal::Length, 0));
+    }
+    Ok(())
 }
 
 // The fault of a question for a pathway or a member that is not there.

@@ -1,8 +1,10 @@
 // The two dialects of content steering.
-ghost use Rattle.std.specs.Prelude.{◌≡◌};
+ghost use Rattle.std.specs.Prelude.{◌≡◌, Some};
 ghost use Rattle.pathways.specs.Dialects.{dialect_name};
 
-#[derive(Clone, Copy, Debug)]
+use std::fmt;
+
+#[derive(Clone, Copy, Debug, PartialEq, Eq)]
 pub enum Dialect {
     Hls,
     Dash,
@@ -16,5 +18,14 @@ impl Dialect {
             Dialect::Hls => "hls",
             Dialect::Dash => "dash",
         }
+    }
+}
+
+// Its name.
+impl fmt::Display for Dialect {
+    ghost output = { λ d. Some (dialect_name d) };
+
+    fn fmt<W: fmt::Write>(&self, f: &mut fmt::Formatter<W>) -> fmt::Result {
+        f.write_str(self.name())
     }
 }

@@ -25,11 +25,5 @@ fn has_id<P: Pathways>(set: &P, number: usize, id: &[u8]) -> bool
 pub fn find<P: Pathways>(set: &P, id: &[u8]) -> Option<usize>
     ensures { Finds result (P.Pathways.pathways set.now) id.now }
 {
-    let count = set.count();
-    for number in 0..count {
-        if has_id(set, number, id) {
-            return Some(number);
-        }
-    }
-    None
+    (0..set.count()).find(|number| has_id(set, *number, id))
 }

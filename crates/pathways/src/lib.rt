@@ -6,4 +6,5 @@ pub mod description;
 pub mod dialect;
 pub mod finding;
 pub mod ids;
+pub mod limits;
 pub mod set;
