@@ -1,5 +1,5 @@
 -- A path that is walked segment by segment has no dot segment, and one that has none stays as it is. Assumes nothing.
-use Rattle.std.proofs.Common.{◌≡◌, ℕ, zero, suc, ◌+◌, Bool, true, false, cond, eqb, List, [], ◌∷◌, ◌++◌, length, take, drop, Some, None, codes, Option, sym, refl, ap, ◌∙◌, subst, ⊎_elim, append_assoc, append-nil, arith}
+use Rattle.std.proofs.Common.{◌≡◌, ℕ, zero, suc, ◌+◌, Bool, true, false, eqb, List, [], ◌∷◌, ◌++◌, length, take, drop, Some, None, codes, Option, sym, refl, ap, ◌∙◌, subst, ⊎_elim, append_assoc, append-nil, arith}
 use Rattle.std.proofs.ByRecursion.{All-push}
 use Rattle.std.proofs.lemmas.Slice.Eq.{bytes_eq-Decides}
 use Rattle.std.proofs.lemmas.List.{take_at}
@@ -12,23 +12,13 @@ use Rattle.uri.proofs.Pieces.{parts-marked, parts_are}
 use Rattle.references.specs.declared.segment.Segment.{Segment}
 use Rattle.references.specs.declared.segment.Segment.TheVariants.{Here, Above, Plain}
 use Rattle.references.specs.Laws.{Named, NoDots}
-use Rattle.references.specs.Paths.{last_from, last_slash, up_to, parent, segment_of, ending, moved, walked, without_dots, Absolute}
+use Rattle.references.specs.Paths.{last_slash, up_to, parent, segment_of, ending, moved, walked, without_dots, Absolute}
 use Rattle.references.specs.Views.{ahead}
-use Rattle.references.proofs.Walks.{plain_is, walked-first}
+use Rattle.references.proofs.Walks.{last_at, walked-first}
 
 -- the last `/` of a path is the one before its last segment
-last_free : (found : Option ℕ) (i : ℕ) {s : List ℕ} → Free 47 s → last_from found i s ≡ found
-last_free found i Free.none = refl
-last_free found i (Free.more {x} {xs} e f) = ap (λ (o : Option ℕ). last_from o (i + 1) xs) (cond-false (eqb x 47) (Some i) found e) ∙ last_free found (i + 1) f
-
-last_is : (found : Option ℕ) (i : ℕ) (out : List ℕ) {s : List ℕ} → Free 47 s → last_from found i (out ++ 47 ∷ s) ≡ Some (i + length out)
-last_is found i [] f = let same : i ≡ i + 0 = omega arith in last_free (Some i) (i + 1) f ∙ ap Some same
-last_is found i (x ∷ out) f =
-    let same : i + 1 + length out ≡ i + suc (length out) = omega arith in
-    last_is (cond (eqb x 47) (Some i) found) (i + 1) out f ∙ ap Some same
-
 parent_is : (out : List ℕ) {s : List ℕ} → Free 47 s → parent (out ++ 47 ∷ s) ≡ out
-parent_is out {s} f = ap (λ (o : Option ℕ). up_to o (out ++ 47 ∷ s)) (last_is None 0 out f) ∙ take_at out (47 ∷ s) (0 + length out) (omega arith)
+parent_is out {s} f = ap (λ (o : Option ℕ). up_to o (out ++ 47 ∷ s)) (last_at None 0 out f) ∙ take_at out (47 ∷ s) (0 + length out) (omega arith)
 
 -- a path of segments none of which is a dot segment, each with a `/` before it
 pub data Walk : List ℕ → Type 0 where
@@ -94,14 +84,8 @@ parts_down b (x ∷ out) {s} f =
     ∙ onto_push x (eqb x b) (before b out) (further b (behind b out)) s
     ∙ ap (λ (ps : List (List ℕ)). onto x (eqb x b) ps ++ s ∷ []) (sym (parts_are b out))
 
-here≢plain : Here ≡ Plain → ⊥
-here≢plain e = let z : ◌≡◌ {A = ℕ} 0 1 = cc in omega arith
-
-above≢plain : Above ≡ Plain → ⊥
-above≢plain e = let z : ◌≡◌ {A = ℕ} 0 1 = cc in omega arith
-
 pub named_from : (s : List ℕ) → segment_of s ≡ Plain → Named s
-named_from s e = (λ is. here≢plain (ap segment_of (sym is) ∙ e), λ is. above≢plain (ap segment_of (sym is) ∙ e))
+named_from s e = (λ is. let f : Here ≡ Plain = ap segment_of (sym is) ∙ e in cc, λ is. let f : Above ≡ Plain = ap segment_of (sym is) ∙ e in cc)
 
 pub walk_named : {out : List ℕ} → Walk out → NoDots out
 walk_named Walk.root = (named_from [] refl, tt)
@@ -112,7 +96,7 @@ other : (xs ys : List ℕ) → (xs ≡ ys → ⊥) → bytes_eq xs ys ≡ false
 other xs ys off = ⊎_elim (λ e. absurd (off ((bytes_eq-Decides xs ys).0 e))) (λ e. e) (cases_Bool (bytes_eq xs ys))
 
 pub plain_from : (s : List ℕ) → Named s → segment_of s ≡ Plain
-plain_from s n = sym (plain_is s (other s (codes ".") n.0) (other s (codes "..") n.1))
+plain_from s n = cond-false (bytes_eq s (codes ".")) Here _ (other s (codes ".") n.0) ∙ cond-false (bytes_eq s (codes "..")) Above Plain (other s (codes "..") n.1)
 
 walked-plain : (out : List ℕ) (ss : List (List ℕ)) → AllByRecursion Named ss → walked out ss ≡ out ++ led 47 ss
 walked-plain out [] n = sym (append-nil out)

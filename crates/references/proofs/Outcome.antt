@@ -33,8 +33,8 @@ module _
   ref_short =
       short_at (length ref) 512 (split ref) (leb-true (length ref) 512 (and_parts (leb (length ref) 512) (is_path (split ref).path && (is_there (split ref).scheme || not (holds 58 (before 47 (split ref).path)))) sound).0) (split-short ref)
 
-  pub room : (n : ℕ) → n ≡ 4096 → extent p ≤ n
-  room n e = omega (arith, ap extent pieces_are, chosen-short (split base) (split ref) base_short ref_short)
+  pub room : extent p ≤ 4096
+  room = omega (arith, ap extent pieces_are, chosen-short (split base) (split ref) base_short ref_short)
 
   pub rooted : p.kept ≡ false → Absolute (p.directory ++ p.parts.path)
   rooted =

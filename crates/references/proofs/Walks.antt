@@ -1,31 +1,51 @@
 -- A path without its dot segments, segment by segment, and its last `/`, byte by byte. Assumes nothing.
-use Rattle.std.proofs.Common.{◌≡◌, ℕ, suc, ◌+◌, ◌-◌, ◌<◌, ◌≤◌, Bool, false, cond, eqb, List, [], ◌∷◌, ◌++◌, length, get_or, take, drop, Some, None, codes, Option, sym, refl, ap, ◌∙◌, subst, arith, length-drop, length-take}
+use Rattle.std.proofs.Common.{◌≡◌, ℕ, suc, ◌+◌, ◌-◌, ◌<◌, ◌≤◌, Bool, cond, eqb, List, [], ◌∷◌, ◌++◌, length, get_or, take, drop, Some, None, Option, sym, refl, ap, ◌∙◌, subst, arith, length-drop, length-take}
 use lib.Seq.{paste}
 use Rattle.std.proofs.lemmas.List.Edits.{take-paste, drop-paste}
-use Rattle.std.proofs.lemmas.List.{at_drop_more, at_drop_all, take-take, take_rest, drop_more, drop-drop}
-use Rattle.std.proofs.lemmas.Bool.{cond-true, cond-false, eq-eqb, ne_eqb, eqb-true}
-use Rattle.std.specs.Str.{bytes_eq}
+use Rattle.std.proofs.lemmas.List.{length-take-le, take-append-drop, get_or-drop, at_drop_more, at_drop_all, take_rest, drop_more, drop-drop}
+use Rattle.std.proofs.lemmas.Bool.{cond-false, ne_eqb, eqb-true}
+use Rattle.std.specs.Option.{MatchOption}
 use Rattle.references.specs.declared.segment.Segment.{Segment}
-use Rattle.references.specs.declared.segment.Segment.TheVariants.{Here, Above, Plain}
+use Rattle.references.specs.declared.segment.Segment.TheVariants.{Plain}
 use Rattle.uri.specs.Cuts.{place, behind, marked, onto, parts, further}
-use Rattle.uri.proofs.Free.{from_is}
+use Rattle.uri.proofs.Free.{Free, from_is}
 use Rattle.uri.proofs.Pieces.{parts_are}
-use Rattle.references.specs.Paths.{last_from, parent, ending, moved, segment_of, walked, opening, without_dots, Absolute}
-use Rattle.references.specs.Views.{Inside, ahead}
+use Rattle.references.specs.Paths.{last_from, last_slash, ending, moved, segment_of, walked, opening, without_dots, Absolute}
+use Rattle.references.specs.Views.{ahead}
 
-module _ (text : List ℕ) (found : Option ℕ) (i : ℕ) where
-  pub last_here : i < length text → get_or text i 0 ≡ 47 → last_from found i (drop i text) ≡ last_from (Some i) (i + 1) (drop (i + 1) text)
-  last_here h e =
-      at_drop_more (last_from found i) text i 0 h
-      ∙ ap (λ (o : Option ℕ). last_from o (i + 1) (drop (i + 1) text)) (cond-true (eqb (get_or text i 0) 47) (Some i) found (eq-eqb (get_or text i 0) 47 e))
+-- no byte of the text is `/`
+abbrev pub NoSlash : List ℕ → Type 0
+NoSlash text = (k : ℕ) → k < length text → get_or text k 0 ≡ 47 → ⊥
 
-  pub last_later : i < length text → (get_or text i 0 ≡ 47 → ⊥) → last_from found i (drop i text) ≡ last_from found (i + 1) (drop (i + 1) text)
-  last_later h e =
-      at_drop_more (last_from found i) text i 0 h
-      ∙ ap (λ (o : Option ℕ). last_from o (i + 1) (drop (i + 1) text)) (cond-false (eqb (get_or text i 0) 47) (Some i) found (ne_eqb (get_or text i 0) 47 e))
+-- a `/` stands there, and none behind it
+abbrev pub Last : List ℕ → ℕ → Type 0
+Last text n = (n < length text) × (get_or text n 0 ≡ 47) × ((k : ℕ) → n < k → k < length text → get_or text k 0 ≡ 47 → ⊥)
 
-  pub last_end : length text ≤ i → last_from found i (drop i text) ≡ found
-  last_end h = at_drop_all (last_from found i) text i h
+free_of : (text : List ℕ) → NoSlash text → Free 47 text
+free_of [] none = Free.none
+free_of (x ∷ xs) none = Free.more (ne_eqb x 47 (none 0 (omega arith))) (free_of xs (λ k h. none (suc k) (omega arith)))
+
+cut_last : (text : List ℕ) (n : ℕ) → n < length text → get_or text n 0 ≡ 47 → text ≡ take n text ++ 47 ∷ drop (n + 1) text
+cut_last text n h e = sym (take-append-drop n text) ∙ ap (λ (l : List ℕ). take n text ++ l) (drop_more text n 0 h ∙ ap (λ (x : ℕ). x ∷ drop (n + 1) text) e)
+
+-- the last `/` of a path is the one before its last segment
+pub last_free : (found : Option ℕ) (i : ℕ) {s : List ℕ} → Free 47 s → last_from found i s ≡ found
+last_free found i Free.none = refl
+last_free found i (Free.more {x} {xs} e f) = ap (λ (o : Option ℕ). last_from o (i + 1) xs) (cond-false (eqb x 47) (Some i) found e) ∙ last_free found (i + 1) f
+
+pub last_at : (found : Option ℕ) (i : ℕ) (out : List ℕ) {s : List ℕ} → Free 47 s → last_from found i (out ++ 47 ∷ s) ≡ Some (i + length out)
+last_at found i [] f = let same : i ≡ i + 0 = omega arith in last_free (Some i) (i + 1) f ∙ ap Some same
+last_at found i (x ∷ out) f =
+    let same : i + 1 + length out ≡ i + suc (length out) = omega arith in
+    last_at (cond (eqb x 47) (Some i) found) (i + 1) out f ∙ ap Some same
+
+-- the place that a search from the back found
+pub last_is : (text : List ℕ) (o : Option ℕ) → MatchOption o (NoSlash text) (Last text) → o ≡ last_slash text
+last_is text None none = sym (last_free None 0 (free_of text none))
+last_is text (Some n) last =
+    let behind : Free 47 (drop (n + 1) text) =
+    free_of (drop (n + 1) text) (λ k h e. last.2 (n + 1 + k) (omega arith) (omega (arith, length-drop (n + 1) text)) (sym (get_or-drop (n + 1) text k 0) ∙ e)) in
+    sym (ap last_slash (cut_last text n last.0 last.1) ∙ last_at None 0 (take n text) behind ∙ ap Some (omega (arith, length-take-le n text)))
 
 -- behind a dot segment that ends at `to`
 module _ (text out : List ℕ) (to : ℕ) where
@@ -36,27 +56,6 @@ module _ (text out : List ℕ) (to : ℕ) where
 
   pub ending_last : length text ≤ to → out ++ 47 ∷ [] ≡ ending out (ahead (drop to text))
   ending_last h = sym (at_drop_all (λ (rest : List ℕ). ending out (ahead rest)) text to h)
-
-pub inside_from : (o : Option ℕ) (n m : ℕ) → n ≤ m → Inside o n → Inside o m
-inside_from None n m h k = tt
-inside_from (Some at) n m h k = omega arith
-
--- a segment that is no dot segment, by what the two tests say
-module _ (s : List ℕ) where
-  abbrev other : Segment
-  other = cond (bytes_eq s (codes "..")) Above Plain
-
-  pub plain_is : bytes_eq s (codes ".") ≡ false → bytes_eq s (codes "..") ≡ false → Plain ≡ segment_of s
-  plain_is e f = sym (cond-false (bytes_eq s (codes ".")) Here other e ∙ cond-false (bytes_eq s (codes "..")) Above Plain f)
-
--- the segment `..` behind a path so far, which is the front of a text
-pub above-moved :
-    (text s : List ℕ) (ss : List (List ℕ)) (above written : ℕ) → above ≤ length (take (written - 0) text) → take above (take (written - 0) text) ≡ parent (take (written - 0) text)
-    → Above ≡ segment_of s → ending (take above text) ss ≡ moved (segment_of s) (take written text) s ss
-above-moved text s ss above written h e is =
-    let same : written - 0 ≡ written = omega arith in
-    ap (λ (out : List ℕ). ending out ss) (sym (take-take above (written - 0) text (omega (arith, length-take (written - 0) text))) ∙ e ∙ ap (λ (n : ℕ). parent (take n text)) same)
-    ∙ ap (λ (kind : Segment). moved kind (take written text) s ss) is
 
 -- any other segment, which is moved with its `/` to the end of the path so far
 module _ (text : List ℕ) (written read to : ℕ) (behind' : written ≤ read) (some : read < to) (within : to ≤ length text) where

@@ -2,8 +2,10 @@
 use Rattle.std.specs.Prelude.{ℕ, ◌+◌, ◌<◌, Bool, true, false, cond, ◌&&◌, List, [], ◌∷◌, ◌++◌, length, Some, None, codes, Option}
 use Rattle.uri.specs.Cuts.{parts}
 use Rattle.uri.specs.Splits.{Split}
-use Rattle.uri.specs.Views.{texts}
+use Rattle.std.specs.Option.{option_map}
 use Rattle.references.specs.declared.target.Target.{Target}
+use Rattle.references.specs.declared.target.TargetPath.{TargetPath}
+use Rattle.references.specs.declared.target.TargetPath.TheVariants.{Kept, Merged}
 use Rattle.references.specs.Paths.{directory, without_dots}
 use Rattle.references.specs.Resolution.{is_there, is_empty, is_rooted, or_else, scheme_text}
 
@@ -28,8 +30,39 @@ pub record Pieces : Type 0 where
   pub directory : List ℕ
   pub kept : Bool
 
+-- a path whose dot segments stay
+abbrev pub is_kept : TargetPath → Bool
+is_kept (Kept path) = true
+is_kept (Merged directory path) = false
+
+-- what stands before a path in two pieces
+abbrev pub directory_text : TargetPath → List ℕ
+directory_text (Kept path) = []
+directory_text (Merged directory path) = directory.now
+
+-- the path, or what stands behind its directory
+abbrev pub rest_text : TargetPath → List ℕ
+rest_text (Kept path) = path.now
+rest_text (Merged directory path) = path.now
+
+-- the whole path, before its dot segments go
+abbrev pub path_text : TargetPath → List ℕ
+path_text p = directory_text p ++ rest_text p
+
+-- a target, as the pieces that it holds
 abbrev pub pieces : Target → Pieces
-pieces t = record { parts = texts t.parts; directory = t.directory.now; kept = t.kept }
+pieces t =
+    record {
+      parts = record {
+        scheme = option_map (λ x. x.now) t.scheme;
+        authority = option_map (λ x. x.now) t.authority;
+        path = rest_text t.path;
+        query = option_map (λ x. x.now) t.query;
+        fragment = option_map (λ x. x.now) t.fragment;
+      };
+      directory = directory_text t.path;
+      kept = is_kept t.path;
+    }
 
 -- what stands before the path of a reference that has neither scheme nor authority
 abbrev pub directory_for : Split → List ℕ → List ℕ

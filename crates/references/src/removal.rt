@@ -1,4 +1,5 @@
-// Removing the dot segments of a path, in place.
+// Removing the dot segments of a path, in place: the path is read and written in one slice, so no iterator can lend its segments, and
+// two places stand for what is written and what is read.
 ghost use Rattle.std.specs.Prelude.{◌≡◌, ◌+◌, ◌-◌, ◌<◌, ◌≤◌, length, take, drop, slice_index};
 ghost use Rattle.references.specs.Paths.{ending, moved, segment_of, without_dots, Absolute};
 ghost use Rattle.references.specs.Views.{ahead};

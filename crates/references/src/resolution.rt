@@ -34,13 +34,6 @@ fn is_reference(text: &[u8]) -> bool
         && (parts.scheme.is_some() || !colon_in_front(parts.path))
 }
 
-// Room for the text of what a reference stands for: the parts of two texts of 512 bytes, and their marks.
-fn blank() -> [u8; 4096]
-    ensures { length result ≡ 4096 }
-{
-    [0; 4096]
-}
-
 // The text, where it is a legal URI.
 fn legal_text(text: &[u8]) -> Option<Text<512>>
     ensures { option_map content result ≡ if_legal text.now }
@@ -58,12 +51,10 @@ fn stands_for<'a>(base: &'a [u8], reference: &'a [u8]) -> Option<Text<512>>
         return None;
     }
     let target = target_of(split(base), split(reference));
-    if target.parts.authority.is_none() {
+    if target.authority.is_none() {
         return None;
     }
-    let mut uri = blank();
-    let length = compose(target, &mut uri);
-    legal_text(&uri[0..length])
+    legal_text(compose(target).as_bytes())
 }
 
 // The URI that `reference` stands for, read against `base`; none where one of them is illegal, or what it stands for is.

@@ -7,11 +7,9 @@ use crate::segment::Segment;
 pub(crate) fn segment_of(text: &[u8]) -> Segment
     ensures { result ≡ segment_of text.now }
 {
-    if text == b".".as_slice() {
-        return Segment::Here;
+    match text {
+        [b'.'] => Segment::Here,
+        [b'.', b'.'] => Segment::Above,
+        _ => Segment::Plain,
     }
-    if text == b"..".as_slice() {
-        return Segment::Above;
-    }
-    Segment::Plain
 }

@@ -8,13 +8,7 @@ fn last_slash(path: &[u8]) -> Option<usize>
     ensures value { result ≡ last_slash path.now }
     ensures within { Inside result (length path.now) }
 {
-    let mut found = None;
-    for (i, byte) in path.iter().enumerate() {
-        if *byte == b'/' {
-            found = Some(i);
-        }
-    }
-    found
+    path.iter().rposition(|byte| *byte == b'/')
 }
 
 // The path up to its last `/`, which stays.
@@ -22,8 +16,8 @@ pub(crate) fn directory_of(path: &[u8]) -> &[u8]
     ensures { result.now ≡ directory path.now }
 {
     match last_slash(path) {
-        Some(at) => &path[0..at + 1],
-        None => &path[0..0],
+        Some(at) => &path[..at + 1],
+        None => b"",
     }
 }
 
@@ -32,8 +26,5 @@ pub(crate) fn parent_length(path: &[u8]) -> usize
     ensures value { take result path.now ≡ parent path.now }
     ensures within { result ≤ length path.now }
 {
-    match last_slash(path) {
-        Some(at) => at,
-        None => 0,
-    }
+    last_slash(path).unwrap_or(0)
 }

@@ -1,11 +1,12 @@
 -- What has been written to a text that grows. Assumes nothing.
-use Rattle.std.specs.Prelude.{ℕ, cond, List, ◌++◌, take, Some, None, Option, nat_le}
+use Rattle.std.specs.Prelude.{ℕ, List, ◌++◌, Some, None, Option}
+use Rattle.std.specs.Option.{option_map}
 use Rattle.terms.specs.declared.draft.Draft.{Draft}
-use Rattle.terms.specs.Texts.{bounded}
+use Rattle.terms.specs.Texts.{content, bounded}
 
 -- the bytes so far, or none once there were too many
 abbrev pub drafted : {N : ℕ} → Draft N → Option (List ℕ)
-drafted {N} d = cond (nat_le d.len N) (Some (take d.len d.bytes)) None
+drafted d = option_map content d.text
 
 -- a part behind what was written, where both have at most n bytes
 abbrev pub extended : ℕ → Option (List ℕ) → List ℕ → Option (List ℕ)

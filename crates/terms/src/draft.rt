@@ -1,12 +1,9 @@
-// A text that grows, of at most N bytes: what was written so far, or that it grew too long.
-ghost use Rattle.std.specs.Prelude.{◌≡◌, length};
+// A text that grows, of at most N bytes: what was written so far, or none once it grew too long.
+use crate::text::Text;
 
 mod methods;
 
-#[derive(Clone, Copy)]
+#[derive(Clone, Copy, Debug)]
 pub struct Draft<const N: usize> {
-    bytes: [u8; N],
-    // How many bytes are written; above N once there was no room for a part.
-    len: usize,
-    ghost room: { length bytes ≡ N },
+    text: Option<Text<N>>,
 }
