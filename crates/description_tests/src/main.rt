@@ -20,10 +20,9 @@
 #![tactic(auto)]
 
 mod decode;
-mod report;
 
 use crate::decode::decode;
-use crate::report::report;
+use reports::report::Report;
 use playlist::reading::Playlist;
 use std::io;
 use std::io::{BufRead, BufReader, ErrorKind};
@@ -41,8 +40,12 @@ fn parts(line: &[u8]) -> Option<(&str, &str, &str)> {
 
 fn table_case(rt: &HostRuntime, name: &str, words: &str) -> io::Result<()> {
     let file = decode(rt.alloc(), words)?;
-    let table = ServiceTable::new(file.as_slice());
-    report(rt, name, table::check::check(file.as_slice()), &table)
+    let report = Report {
+        name,
+        verdict: table::check::check(file.as_slice()),
+        description: &ServiceTable::new(file.as_slice()),
+    };
+    print!(rt; "{report}")
 }
 
 fn playlist_case(rt: &HostRuntime, name: &str, words: &str) -> io::Result<()> {
@@ -51,9 +54,12 @@ fn playlist_case(rt: &HostRuntime, name: &str, words: &str) -> io::Result<()> {
     };
     let own = decode(rt.alloc(), own)?;
     let text = decode(rt.alloc(), words)?;
-    let verdict = multivariant::check::check(own.as_slice(), text.as_slice());
-    let playlist = Playlist::new(rt.alloc(), own.as_slice(), text.as_slice())?;
-    report(rt, name, verdict, &playlist)
+    let report = Report {
+        name,
+        verdict: multivariant::check::check(own.as_slice(), text.as_slice()),
+        description: &Playlist::new(rt.alloc(), own.as_slice(), text.as_slice())?,
+    };
+    print!(rt; "{report}")
 }
 
 fn case(rt: &HostRuntime, line: &[u8]) -> io::Result<()> {
@@ -65,14 +71,10 @@ fn case(rt: &HostRuntime, line: &[u8]) -> io::Result<()> {
 }
 
 fn run(rt: &HostRuntime) -> io::Result<()> {
-    let mut input = BufReader::new(rt.alloc(), rt.stdin())?;
-    let mut line = Vec::new(rt.alloc());
+    let input = BufReader::new(rt.alloc(), rt.stdin())?;
     let mut cases = 0u64;
-    for number in 1..u64::MAX {
-        line.clear();
-        if input.read_until(b'\n', &mut line)? == 0 {
-            break;
-        }
+    for (number, line) in (1u64..).zip(input.split(rt.alloc(), b'\n')) {
+        let line = line?;
         match case(rt, line.as_slice()) {
             Ok(()) => cases = cases.saturating_add(1),
             Err(error) if matches!(error.kind(), ErrorKind::InvalidData) => {

@@ -15,12 +15,13 @@
 #![tactic(auto)]
 
 mod decode;
-mod report;
 
 use crate::decode::decode;
-use crate::report::report;
+use reports::report::Report;
 use std::io;
 use std::io::{BufRead, BufReader, ErrorKind};
+use table::check::check;
+use table::reading::ServiceTable;
 
 // The name of a case and the words behind it.
 fn parts(line: &[u8]) -> Option<(&str, &str)> {
@@ -35,18 +36,19 @@ fn case(rt: &HostRuntime, line: &[u8]) -> io::Result<()> {
         return Err(ErrorKind::InvalidData.into());
     };
     let file = decode(rt.alloc(), words)?;
-    report(rt, name, file.as_slice())
+    let report = Report {
+        name,
+        verdict: check(file.as_slice()),
+        description: &ServiceTable::new(file.as_slice()),
+    };
+    print!(rt; "{report}")
 }
 
 fn run(rt: &HostRuntime) -> io::Result<()> {
-    let mut input = BufReader::new(rt.alloc(), rt.stdin())?;
-    let mut line = Vec::new(rt.alloc());
+    let input = BufReader::new(rt.alloc(), rt.stdin())?;
     let mut cases = 0u64;
-    for number in 1..u64::MAX {
-        line.clear();
-        if input.read_until(b'\n', &mut line)? == 0 {
-            break;
-        }
+    for (number, line) in (1u64..).zip(input.split(rt.alloc(), b'\n')) {
+        let line = line?;
         match case(rt, line.as_slice()) {
             Ok(()) => cases = cases.saturating_add(1),
             Err(error) if matches!(error.kind(), ErrorKind::InvalidData) => {

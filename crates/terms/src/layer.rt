@@ -1,5 +1,5 @@
 // The layer that turned something down.
-ghost use Rattle.std.specs.Prelude.{◌≡◌};
+ghost use Rattle.std.specs.Prelude.{◌≡◌, Some};
 ghost use Rattle.terms.specs.Layers.{layer_name};
 
 use std::fmt;
@@ -27,7 +27,10 @@ impl Layer {
     }
 }
 
+// Its name.
 impl fmt::Display for Layer {
+    ghost output = { λ l. Some (layer_name l) };
+
     fn fmt<W: fmt::Write>(&self, f: &mut fmt::Formatter<W>) -> fmt::Result {
         f.write_str(self.name())
     }

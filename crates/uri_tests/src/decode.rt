@@ -1,33 +1,24 @@
 // A text, written as a word: its bytes in small hex digits, or `-` for the empty one.
+use hex::FromHexError;
 use std::alloc::Global;
 use std::io;
 use std::io::ErrorKind;
 
-fn digit(character: u8) -> Option<u8> {
-    match character {
-        b'0'..=b'9' => Some(character - b'0'),
-        b'a'..=b'f' => Some(character - b'a' + 10),
-        _ => None,
+// The bytes of small hex digits.
+fn bytes(heap: Global, digits: &str) -> io::Result<Vec<u8>> {
+    if digits.bytes().any(|digit| digit.is_ascii_uppercase()) {
+        return Err(ErrorKind::InvalidData.into());
     }
-}
-
-fn byte(digits: &[u8]) -> Option<u8> {
-    let [high, low] = digits else {
-        return None;
-    };
-    Some((digit(*high)? << 4) | digit(*low)?)
+    match hex::decode(heap, digits) {
+        Ok(bytes) => Ok(bytes),
+        Err(FromHexError::OutOfMemory) => Err(ErrorKind::OutOfMemory.into()),
+        Err(_) => Err(ErrorKind::InvalidData.into()),
+    }
 }
 
 pub(crate) fn decode(heap: Global, word: &str) -> io::Result<Vec<u8>> {
-    let mut text = Vec::new(heap);
-    if word == "-" {
-        return Ok(text);
+    match word {
+        "-" => Ok(Vec::new(heap)),
+        _ => bytes(heap, word),
     }
-    for pair in word.as_bytes().chunks(2) {
-        let Some(byte) = byte(pair) else {
-            return Err(ErrorKind::InvalidData.into());
-        };
-        text.push(byte)?;
-    }
-    Ok(text)
 }

@@ -78,14 +78,10 @@ fn case(rt: &HostRuntime, line: &[u8]) -> io::Result<()> {
 }
 
 fn run(rt: &HostRuntime) -> io::Result<()> {
-    let mut input = BufReader::new(rt.alloc(), rt.stdin())?;
-    let mut line = Vec::new(rt.alloc());
+    let input = BufReader::new(rt.alloc(), rt.stdin())?;
     let mut cases = 0u64;
-    for number in 1..u64::MAX {
-        line.clear();
-        if input.read_until(b'\n', &mut line)? == 0 {
-            break;
-        }
+    for (number, line) in (1u64..).zip(input.split(rt.alloc(), b'\n')) {
+        let line = line?;
         match case(rt, line.as_slice()) {
             Ok(()) => cases = cases.saturating_add(1),
             Err(error) if matches!(error.kind(), ErrorKind::InvalidData) => {
