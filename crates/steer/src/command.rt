@@ -49,10 +49,7 @@ impl fmt::Display for Misuse {
 
 // The words of the command line, of which the first is the program's own name.
 pub(crate) fn words(rt: &HostRuntime) -> Result<Args, Misuse> {
-    match env::args(rt) {
-        Ok(words) => Ok(words),
-        Err(error) => Err(Misuse::NoWords(error)),
-    }
+    env::args(rt).map_err(Misuse::NoWords)
 }
 
 pub(crate) fn parse(mut words: Args) -> Result<Command, Misuse> {

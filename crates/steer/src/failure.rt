@@ -1,5 +1,6 @@
 // What ends the program with status 1, and what is said of it.
 use crate::command::{Misuse, USAGE};
+use std::alloc::AllocError;
 use std::io;
 use terms::fault::Fault;
 
@@ -24,6 +25,12 @@ impl From<Misuse> for Failure {
 impl From<Fault> for Failure {
     fn from(fault: Fault) -> Failure {
         Failure::Fault(fault)
+    }
+}
+
+impl From<AllocError> for Failure {
+    fn from(_error: AllocError) -> Failure {
+        Failure::NoMemory
     }
 }
 

@@ -25,10 +25,8 @@ fn table(rt: &HostRuntime, path: String) -> Result<(), Failure> {
 fn playlist(rt: &HostRuntime, uri: String, path: String) -> Result<(), Failure> {
     let file = read(rt, path)?;
     check_playlist(uri.as_bytes(), file.as_slice())?;
-    match Playlist::new(rt.alloc(), uri.as_bytes(), file.as_slice()) {
-        Ok(playlist) => show(rt, &playlist),
-        Err(_) => Err(Failure::NoMemory),
-    }
+    let playlist = Playlist::new(rt.alloc(), uri.as_bytes(), file.as_slice())?;
+    show(rt, &playlist)
 }
 
 fn run(rt: &HostRuntime) -> Result<(), Failure> {

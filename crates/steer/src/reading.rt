@@ -17,8 +17,5 @@ fn read_front(rt: &HostRuntime, path: &str) -> io::Result<Vec<u8>> {
 
 // The first bytes of a file.
 pub(crate) fn read(rt: &HostRuntime, path: String) -> Result<Vec<u8>, Failure> {
-    match read_front(rt, path.as_str()) {
-        Ok(bytes) => Ok(bytes),
-        Err(error) => Err(Failure::Unreadable(path, error)),
-    }
+    read_front(rt, path.as_str()).map_err(|error| Failure::Unreadable(path, error))
 }

@@ -12,13 +12,8 @@ const ANSWER_BYTES: usize = 512;
 fn text(buffer: &[u8], length: usize) -> Result<&str, Failure>
     ensures { IfOk result (λ x. x.now ≡ take length buffer.now) }
 {
-    let Some(bytes) = buffer.get(0..length) else {
-        return Err(Failure::NoText);
-    };
-    match std::str::from_utf8(bytes) {
-        Ok(text) => Ok(text),
-        Err(_) => Err(Failure::NoText),
-    }
+    let bytes = buffer.get(0..length).ok_or(Failure::NoText)?;
+    std::str::from_utf8(bytes).map_err(|_| Failure::NoText)
 }
 
 fn show_member<P: Pathways>(
@@ -48,7 +43,7 @@ fn show_pathway<P: Pathways>(rt: &impl Print, set: &P, number: usize) -> Result<
 // Dialect and steering URI in one line, and below it each pathway with its members.
 pub(crate) fn show<D: Description>(rt: &impl Print, description: &D) -> Result<(), Failure> {
     let mut buffer = [0; ANSWER_BYTES];
-    let dialect = description.dialect().name();
+    let dialect = description.dialect();
     let length = description.steering(&mut buffer)?;
     let uri = text(&buffer, length)?;
     println!(rt; "{dialect} {uri}")?;
