@@ -1,8 +1,7 @@
 -- One rule after another. Assumes nothing.
-use Rattle.std.proofs.Common.{◌≡◌, ℕ, List, [], ◌∷◌, ◌++◌, IfOk, Some, None, Ok, Err, Option, Result, sym, refl, ap, ◌∙◌, arith}
-use Rattle.terms.specs.declared.fault.Fault.{Fault}
-use Rattle.terms.specs.Faults.{Told, outcome}
-use Rattle.pathways.specs.Rules.{Rule, verdict, done, and_then, judged}
+use Rattle.std.proofs.Common.{◌≡◌, ℕ, List, [], ◌∷◌, ◌++◌, Some, None, Ok, Err, Option, Result, sym, refl, ap, ◌∙◌, arith}
+use Rattle.terms.specs.Faults.{Told}
+use Rattle.pathways.specs.Rules.{Rule, verdict, and_then, judged}
 
 -- a rule that is kept
 pub skip : (v next : Result (Unit {0}) Told) → Ok tt ≡ v → and_then v next ≡ next

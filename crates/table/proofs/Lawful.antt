@@ -14,12 +14,11 @@ use Rattle.pathways.specs.Limits.{legal_id, Different, LawfulPathway, Lawful, De
 use Rattle.table.specs.declared.kind.Kind.{Kind}
 use Rattle.table.specs.declared.kind.Kind.TheVariants.{Steering, Id, Member, Unknown}
 use Rattle.table.specs.declared.entry.Entry.{Entry}
-use Rattle.table.specs.Contents.{count_of, spot, contents, Within, body_of, is_id, is_member}
+use Rattle.table.specs.Contents.{count_of, spot, contents, body_of, is_id, is_member}
 use Rattle.table.specs.Reading.{members_in, pathway_at, pathways_in, steering_in, meaning_of}
 use Rattle.table.specs.Offences.{contents_long, overlong, follows, disordered, out_of_order, bad_id, has_id, repeated, bad_uri, member_first, excess, ids_now, members_now, overrun, bad_count}
 use Rattle.pathways.specs.Rules.{Rule, verdict, and_then, judged}
 use Rattle.table.specs.Checks.{layout, sense, checked}
-use Rattle.table.proofs.Entries.{length-contents}
 
 -- no offence: the test was not met, and there is none further on
 pub none-further : (b : Bool) (p : ℕ) (o : Option ℕ) → cond b (Some p) o ≡ None → (b ≡ false) × (o ≡ None)
