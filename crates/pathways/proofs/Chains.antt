@@ -1,16 +1,11 @@
 -- One rule after another. Assumes nothing.
-use Rattle.std.proofs.Common.{◌≡◌, ℕ, List, [], ◌∷◌, ◌++◌, IfOk, Some, None, Ok, Err, Option, Result, sym, refl, ap, ◌∙◌, arith}
-use Rattle.terms.specs.declared.fault.Fault.{Fault}
-use Rattle.terms.specs.Faults.{Told, outcome}
-use Rattle.pathways.specs.Rules.{Rule, verdict, done, and_then, judged}
+use Rattle.std.proofs.Common.{◌≡◌, ℕ, List, [], ◌∷◌, ◌++◌, Some, None, Ok, Err, Option, Result, sym, refl, ap, ◌∙◌, arith}
+use Rattle.terms.specs.Faults.{Told}
+use Rattle.pathways.specs.Rules.{Rule, verdict, and_then, judged}
 
 -- a rule that is kept
 pub skip : (v next : Result (Unit {0}) Told) → Ok tt ≡ v → and_then v next ≡ next
 skip v next e = ap (λ (w : Result (Unit {0}) Told). and_then w next) (sym e)
-
-pub and_then_done : (v : Result (Unit {0}) Told) → and_then v (Ok tt) ≡ v
-and_then_done (Ok x) = refl
-and_then_done (Err t) = refl
 
 pub and_then_assoc : (u v w : Result (Unit {0}) Told) → and_then u (and_then v w) ≡ and_then (and_then u v) w
 and_then_assoc (Ok x) v w = refl
@@ -22,16 +17,8 @@ judged-append (x ∷ xs) ys =
     ap (and_then (verdict x.number x.offence)) (judged-append xs ys)
     ∙ and_then_assoc (verdict x.number x.offence) (judged xs) (judged ys)
 
-pub made_any : {X Y : Type 0} (P : Type 0) (r : Result X Y) → P → IfOk r (λ _. P)
-made_any P (Ok x) p = p
-made_any P (Err y) p = tt
-
 pub stop : (v next : Result (Unit {0}) Told) (t : Told) → Err t ≡ v → Err t ≡ and_then v next
 stop v next t e = ap (λ (w : Result (Unit {0}) Told). and_then w next) e
-
-pub done_is : (r : Result (Unit {0}) Fault) → outcome r ≡ done r
-done_is (Ok x) = refl
-done_is (Err f) = refl
 
 -- what a kept rule says
 pub kept : (n : ℕ) (o : Option ℕ) → Ok tt ≡ verdict n o → o ≡ None

@@ -10,8 +10,9 @@ use Rattle.pathways.specs.Meaning.{Pathway, ids}
 use Rattle.pathways.specs.Limits.{Different, Lawful}
 use Rattle.table.specs.Contents.{count_of, spot, contents}
 use Rattle.table.specs.Reading.{pathways_in}
-use Rattle.table.specs.Offences.{bad_length, bad_header, count_missing, contents_long, misplaced, overlong, end_of, left_over, unknown_kind, out_of_order, bad_id, repeated, bad_uri, overrun, bad_count}
-use Rattle.table.specs.Checks.{Rule, verdict, and_then, judged, layout, sense, checked}
+use Rattle.table.specs.Offences.{bad_header, count_missing, contents_long, misplaced, overlong, end_of, left_over, unknown_kind, out_of_order, bad_id, repeated, bad_uri, overrun, bad_count}
+use Rattle.pathways.specs.Rules.{Rule, bad_length, verdict, and_then, judged}
+use Rattle.table.specs.Checks.{layout, sense, checked}
 use Rattle.table.specs.Format.{Item, items, dialect_code, bodies, laid, written, Table}
 use Rattle.table.proofs.Loops.{good_header}
 use Rattle.table.proofs.Written.{entries_for, count_read, contents_read, bodies_read, length-laid}

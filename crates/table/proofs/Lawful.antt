@@ -4,7 +4,7 @@ use Rattle.std.specs.List.{AllByRecursion}
 use Rattle.std.specs.Str.{bytes_eq}
 use Rattle.std.proofs.ByRecursion.{All-weaker}
 use Rattle.std.proofs.lemmas.Slice.Eq.{bytes_eq-Decides}
-use Rattle.std.proofs.lemmas.Bool.{false≢true, true≢false, not-false, ltb-false, leb-false, eqb-false, or_parts, cond-true, cond-false}
+use Rattle.std.proofs.lemmas.Bool.{false≢true, true≢false, not-false, ltb-false, leb-true, leb-false, eqb-false, or_parts, cond-true, cond-false}
 use Rattle.std.proofs.lemmas.Bool.Decides.{not_from_Decides}
 use Rattle.uri.specs.Legal.{legal}
 use Rattle.uri.specs.Splits.{fragment}
@@ -14,12 +14,11 @@ use Rattle.pathways.specs.Limits.{legal_id, Different, LawfulPathway, Lawful, De
 use Rattle.table.specs.declared.kind.Kind.{Kind}
 use Rattle.table.specs.declared.kind.Kind.TheVariants.{Steering, Id, Member, Unknown}
 use Rattle.table.specs.declared.entry.Entry.{Entry}
-use Rattle.table.specs.Contents.{count_of, spot, contents, Within, body_of, is_id, is_member}
+use Rattle.table.specs.Contents.{count_of, spot, contents, body_of, is_id, is_member}
 use Rattle.table.specs.Reading.{members_in, pathway_at, pathways_in, steering_in, meaning_of}
 use Rattle.table.specs.Offences.{contents_long, overlong, follows, disordered, out_of_order, bad_id, has_id, repeated, bad_uri, member_first, excess, ids_now, members_now, overrun, bad_count}
-use Rattle.table.specs.Checks.{Rule, verdict, and_then, judged, layout, sense, checked}
-use Rattle.table.proofs.Entries.{length-contents}
-use Rattle.table.proofs.Chains.{all_within}
+use Rattle.pathways.specs.Rules.{Rule, verdict, and_then, judged}
+use Rattle.table.specs.Checks.{layout, sense, checked}
 
 -- no offence: the test was not met, and there is none further on
 pub none-further : (b : Bool) (p : ℕ) (o : Option ℕ) → cond b (Some p) o ≡ None → (b ≡ false) × (o ≡ None)
@@ -29,6 +28,13 @@ none-further false p o e = (refl, e)
 pub none_passed : (b : Bool) (p : ℕ) (o : Option ℕ) → cond b o (Some p) ≡ None → (b ≡ true) × (o ≡ None)
 none_passed true p o e = (refl, e)
 none_passed false p o e = let z : ◌≡◌ {A = ℕ} 0 1 = cc in absurd (omega arith)
+
+-- bodies that pass no end
+pub all_within : (end i : ℕ) (es : List Entry) → overlong end i es ≡ None → AllByRecursion (λ (e : Entry). e.place + e.size ≤ end) es
+all_within end i [] h = tt
+all_within end i (e ∷ es) h =
+    let p = none_passed (leb (e.place + e.size) end) (spot i) (overlong end (i + 1) es) h in
+    (leb-true (e.place + e.size) end p.0, all_within end (i + 1) es p.1)
 
 -- kinds
 id_no_member : (k : Kind) → is_id k ≡ true → is_member k ≡ false
@@ -213,10 +219,6 @@ module _ (file : List ℕ) where
   steering-whole [] o = let z : ◌≡◌ {A = ℕ} 0 1 = cc in absurd (omega arith)
   steering-whole (e ∷ es) o = no_fragment (body_of file e)
 
-  some_entry : (es : List Entry) → out_of_order es ≡ None → 0 < length es
-  some_entry [] o = let z : ◌≡◌ {A = ℕ} 0 1 = cc in absurd (omega arith)
-  some_entry (e ∷ es) o = omega arith
-
 -- each rule is kept
 rule_kept : (n : ℕ) (o : Option ℕ) (rs : List Rule) → is_ok (and_then (verdict n o) (judged rs)) ≡ true → (o ≡ None) × (is_ok (judged rs) ≡ true)
 rule_kept n None rs e = (refl, e)
@@ -253,12 +255,6 @@ module _ (file : List ℕ) (sound : is_ok (checked file) ≡ true) where
 
   pub sound_fits : spot (count_of file) ≤ length file
   sound_fits = ltb-false (length file) (spot (count_of file)) (none-further (ltb (length file) (spot (count_of file))) 4 None fits_kept).0
-
-  pub sound_within : Within file
-  sound_within = all_within (length file) 0 (contents file) within-kept
-
-  pub sound_some : 0 < count_of file
-  sound_some = omega (arith, some_entry file (contents file) order_kept, length-contents file)
 
   counted : (eqb (length (pathways_in file (contents file))) 0 ≡ false) × (overrun 0 0 0 (contents file) ≡ None)
   counted = none-further (eqb (length (pathways_in file (contents file))) 0) 4 (overrun 0 0 0 (contents file)) counts_kept

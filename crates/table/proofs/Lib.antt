@@ -1,6 +1,5 @@
 pub mod Entries
 pub mod Loops
-pub mod Chains
 pub mod Walks
 pub mod Lawful
 pub mod Written
@@ -12,3 +11,4 @@ pub mod Regrouped
 pub mod Spelled
 pub mod Sound
 pub mod Format
+pub mod Searches

@@ -1,70 +1,132 @@
--- From an entry of the contents to a pathway and its members. Assumes nothing.
-use Rattle.std.proofs.Common.{◌≡◌, ℕ, zero, suc, ◌+◌, ◌<◌, ◌≤◌, Bool, true, false, cond, ltb, List, [], ◌∷◌, length, get_or, drop, Some, None, Option, sym, refl, ap, ◌∙◌, suc-le-suc, zero-le, le_of_suc-le-suc, arith}
-use Rattle.std.proofs.lemmas.List.{drop-drop, length-drop}
-use Rattle.std.proofs.lemmas.Bool.{cond-true, cond-false, lt-ltb, le-ltb}
-use Rattle.pathways.specs.Meaning.{Pathway, nowhere}
-use Rattle.pathways.specs.Questions.{numbered, members_of, member_of}
+-- From part to part of a file: its pathways, and the members of each. Assumes nothing.
+use Rattle.std.proofs.Common.{◌≡◌, ℕ, suc, ◌+◌, Bool, true, false, cond, ltb, List, [], ◌∷◌, map, length, get_or, take, Some, None, Option, MatchOption, sym, refl, ap, ◌∙◌, subst, arith}
+use denote.Param.Members.{Mut}
+use denote.Ref.{Bor}
+use Rattle.std.specs.Fn.{CalledAt}
+use Rattle.std.specs.Option.{option_map}
+use Rattle.std.specs.List.{FoldsTo, prefix_len, slice_get}
+use Rattle.std.specs.Iterator.{Yields, YieldsFirstBy, FindsItem}
+use Rattle.std.proofs.lemmas.Option.{slice_get-get_or, slice_get_past}
+use Rattle.std.proofs.lemmas.Bool.{cond-true, cond-false, ltb-true, ltb-false}
+use Rattle.pathways.specs.Meaning.{Pathway}
+use Rattle.pathways.specs.Questions.{id_of, member_of}
+use Rattle.table.specs.declared.reading.walking.Group.{Group}
+use Rattle.table.specs.Walks.{pathway_of}
 use Rattle.table.specs.declared.entry.Entry.{Entry}
-use Rattle.table.specs.Contents.{count_of, contents, body_of, is_member}
-use Rattle.table.specs.Reading.{members_in, pathway_at}
-use Rattle.table.proofs.Entries.{length-contents}
+use Rattle.table.specs.declared.bodies.parts.Part.{Part}
+use Rattle.table.specs.declared.bodies.parts.Parts.{Parts}
+use Rattle.table.specs.Contents.{entries_in, body_of, is_id, is_member}
+use Rattle.table.specs.Reading.{members_in, pathways_in}
+use Rattle.table.specs.Parts.{with_bodies, shown, parts_left}
 
-pub found : (ps : List Pathway) (n : ℕ) (p : Pathway) → n < length ps → get_or ps n nowhere ≡ p → numbered ps n ≡ Some p
-found ps n p h e = cond-true (ltb n (length ps)) (Some (get_or ps n nowhere)) None (lt-ltb n (length ps) h) ∙ ap Some e
+-- the members that stand in front of parts, and the pathways among them
+abbrev pub members_among : List (Entry × List ℕ) → List (List ℕ)
+members_among [] = []
+members_among (p ∷ ps) = cond (is_member p.0.kind) (p.1 ∷ members_among ps) []
 
-members-first : (file : List ℕ) (es : List Entry) → (pathway_at file es).members ≡ members_in file (drop 1 es)
-members-first file [] = refl
-members-first file (e ∷ es) = refl
+abbrev pub pathways_among : List (Entry × List ℕ) → List Pathway
+pathways_among [] = []
+pathways_among (p ∷ ps) = cond (is_id p.0.kind) (record { id = p.1; members = members_among ps } ∷ pathways_among ps) (pathways_among ps)
 
--- the members of a pathway stand behind its ID
-pub members-behind : (file : List ℕ) (i : ℕ) (es : List Entry) → (pathway_at file (drop i es)).members ≡ members_in file (drop (i + 1) es)
-members-behind file i es = members-first file (drop i es) ∙ ap (members_in file) (drop-drop 1 i es)
+pub members-among : (file : List ℕ) (es : List Entry) → members_among (with_bodies file es) ≡ members_in file es
+members-among file [] = refl
+members-among file (e ∷ es) = ap (λ (l : List (List ℕ)). cond (is_member e.kind) (body_of file e ∷ l) []) (members-among file es)
 
-le_cond : (b : Bool) (m : List ℕ) (ms : List (List ℕ)) (n : ℕ) → length ms ≤ n → length (cond b (m ∷ ms) []) ≤ suc n
-le_cond true m ms n h = suc-le-suc h
-le_cond false m ms n h = zero-le
+pub pathways-among : (file : List ℕ) (es : List Entry) → pathways_among (with_bodies file es) ≡ pathways_in file es
+pathways-among file [] = refl
+pathways-among file (e ∷ es) =
+    let members-are = members-among file es in
+    let more = pathways-among file es in
+    (λ j. cond (is_id e.kind) (record { id = body_of file e; members = members-are j } ∷ more j) (more j))
 
-pub members-few : (file : List ℕ) (es : List Entry) → length (members_in file es) ≤ length es
-members-few file [] = zero-le
-members-few file (e ∷ es) = le_cond (is_member e.kind) (body_of file e) (members_in file es) (length es) (members-few file es)
+-- the same of what is left
+abbrev pub members_in_parts : Parts → List (List ℕ)
+members_in_parts s = members_in s.file.now (entries_in s.entries.bytes.now)
 
--- a member is the body of its entry
-pub member_is : (file : List ℕ) (es : List Entry) (m : ℕ) (e : Entry) (rest : List Entry) → m < length (members_in file es) → drop m es ≡ e ∷ rest → get_or (members_in file es) m [] ≡ body_of file e
-member_is file [] m e rest h step = absurd (omega arith)
-member_is file (x ∷ es) m e rest h step = at (is_member x.kind) m h step (λ k l s. member_is file es k e rest l s)
+abbrev pub pathways_in_parts : Parts → List Pathway
+pathways_in_parts s = pathways_in s.file.now (entries_in s.entries.bytes.now)
+
+pub among : (s : Parts) → pathways_among (parts_left s) ≡ pathways_in_parts s
+among s = pathways-among s.file.now (entries_in s.entries.bytes.now)
+
+-- parts that are no IDs are passed over
+module _ {F : Type 0} (g : Mut F (Bor Part × Unit {0}) Bool) (f : F)
+    (no : (x : Part) (q : F) → CalledAt g f x false q → (q ≡ f) × (is_id x.entry.kind ≡ false)) where
+  passed_over : (xs : List Part) (s t : Parts) (j : F) → Yields (YieldsFirstBy shown parts_left) s xs t → FoldsTo (λ p x q. CalledAt g p x false q) f xs j
+      → pathways_among (parts_left s) ≡ pathways_among (parts_left t)
+  passed_over [] s t j y h = ap (λ (u : Parts). pathways_among (parts_left u)) y
+  passed_over (x ∷ xs) s t j y h =
+      let here = no x h.0 h.1 in
+      let more = passed_over xs y.0 t j y.2 (subst (λ (q : F). FoldsTo (λ p z r. CalledAt g p z false r) q xs j) here.0 h.2) in
+      ap pathways_among y.1
+      ∙ cond-false (is_id x.entry.kind) (record { id = x.body.now; members = members_among (parts_left y.0) } ∷ pathways_among (parts_left y.0)) (pathways_among (parts_left y.0)) here.1
+      ∙ more
+
+  -- what `find` of an ID says, where there is none, and where there is one
+  pub no_pathway : (s u : Parts) → FindsItem (YieldsFirstBy shown parts_left) g s f None u → (pathways_in_parts s ≡ []) × (pathways_in_parts u ≡ [])
+  no_pathway s u ran =
+      let over = passed_over ran.0 s ran.2.0 ran.1 ran.2.1 ran.3 in
+      (sym (among s) ∙ over ∙ ap pathways_among ran.2.2.0, sym (among u) ∙ ap pathways_among ran.2.2.1)
+
+  pub next_pathway : (is : (x : Part) (p q : F) → CalledAt g p x true q → is_id x.entry.kind ≡ true) (s u : Parts) (x : Part)
+      → FindsItem (YieldsFirstBy shown parts_left) g s f (Some x) u
+      → pathways_in_parts s ≡ record { id = x.body.now; members = members_in_parts u } ∷ pathways_in_parts u
+  next_pathway is s u x ran =
+      let over = passed_over ran.0 s ran.2.0 ran.1 ran.2.1 ran.3 in
+      let members-are = members-among u.file.now (entries_in u.entries.bytes.now) in
+      let more = among u in
+      sym (among s)
+      ∙ over
+      ∙ ap pathways_among ran.2.2
+      ∙ cond-true (is_id x.entry.kind) (record { id = x.body.now; members = members_among (parts_left u) } ∷ pathways_among (parts_left u)) (pathways_among (parts_left u)) (is x ran.1 ran.4.0 ran.4.1)
+      ∙ (λ j. record { id = x.body.now; members = members-are j } ∷ more j)
+
+-- the parts in front that are members
+abbrev pub is_member_part : Entry × List ℕ → Bool
+is_member_part p = is_member p.0.kind
+
+abbrev pub body : Entry × List ℕ → List ℕ
+body p = p.1
+
+pub members_front : (ps : List (Entry × List ℕ)) → map body (take (prefix_len is_member_part ps) ps) ≡ members_among ps
+members_front [] = refl
+members_front (p ∷ ps) = go (is_member_part p) (members_front ps)
   where
-    at : (b : Bool) (m : ℕ) → m < length (cond b (body_of file x ∷ members_in file es) []) → drop m (x ∷ es) ≡ e ∷ rest
-        → ((k : ℕ) → k < length (members_in file es) → drop k es ≡ e ∷ rest → get_or (members_in file es) k [] ≡ body_of file e)
-        → get_or (cond b (body_of file x ∷ members_in file es) []) m [] ≡ body_of file e
-    at true zero h step more = let same : x ≡ e = cc in ap (body_of file) same
-    at true (suc m) h step more = more m (le_of_suc-le-suc h) step
-    at false m h step more = absurd (omega arith)
+    go : (b : Bool) → map body (take (prefix_len is_member_part ps) ps) ≡ members_among ps
+        → map body (take (cond b (1 + prefix_len is_member_part ps) 0) (p ∷ ps)) ≡ cond b (p.1 ∷ members_among ps) []
+    go true more =
+        let on : 1 + prefix_len is_member_part ps ≡ suc (prefix_len is_member_part ps) = omega arith in
+        ap (λ (k : ℕ). map body (take k (p ∷ ps))) on ∙ ap (λ (l : List (List ℕ)). p.1 ∷ l) more
+    go false more = refl
 
-module _ (file : List ℕ) (i n : ℕ) (ps : List Pathway) (there : n < length ps) (is : get_or ps n nowhere ≡ pathway_at file (drop i (contents file))) where
-  abbrev behind : List Entry
-  behind = drop (i + 1) (contents file)
+pub front_is : (s : Parts) → map body (take (prefix_len is_member_part (parts_left s)) (parts_left s)) ≡ members_in_parts s
+front_is s = members_front (parts_left s) ∙ members-among s.file.now (entries_in s.entries.bytes.now)
 
-  pub members-counted : (k : ℕ) → k ≡ length (members_in file behind) → Some k ≡ members_of (numbered ps n)
-  members-counted k e =
-      ap Some (e ∙ ap length (sym (members-behind file i (contents file))))
-      ∙ ap members_of (sym (found ps n (pathway_at file (drop i (contents file))) there is))
+-- the URI of a part that was found
+pub found_body : (found : Option Part) (told : Option (Bor (List ℕ))) → told ≡ option_map (λ (p : Part). p.body) found → option_map (λ (x : Bor (List ℕ)). x.now) told ≡ option_map body (option_map shown found)
+found_body found told t = ap (option_map (λ (x : Bor (List ℕ)). x.now)) t ∙ known found
+  where
+    known : (o : Option Part) → option_map (λ (x : Bor (List ℕ)). x.now) (option_map (λ (p : Part). p.body) o) ≡ option_map body (option_map shown o)
+    known None = refl
+    known (Some p) = refl
 
-  member_in_lem : (m : ℕ) → member_of (numbered ps n) m ≡ cond (ltb m (length (members_in file behind))) (Some (get_or (members_in file behind) m [])) None
-  member_in_lem m =
-      ap (λ (o : Option Pathway). member_of o m) (found ps n (pathway_at file (drop i (contents file))) there is)
-      ∙ ap (λ (l : List (List ℕ)). cond (ltb m (length l)) (Some (get_or l m [])) None) (members-behind file i (contents file))
+-- the element of a number, where there is one
+pub get_is : {X : Type 0} (xs : List X) (n : ℕ) (d : X) → slice_get xs n ≡ cond (ltb n (length xs)) (Some (get_or xs n d)) None
+get_is xs n d = go (ltb n (length xs)) refl
+  where
+    go : (b : Bool) → ltb n (length xs) ≡ b → slice_get xs n ≡ cond b (Some (get_or xs n d)) None
+    go true t = slice_get-get_or xs n d (ltb-true n (length xs) t)
+    go false t = slice_get_past xs n (ltb-false n (length xs) t)
 
-  pub no_member : (m k : ℕ) → k ≡ length (members_in file behind) → k ≤ m → None ≡ member_of (numbered ps n) m
-  no_member m k e h =
-      sym (member_in_lem m ∙ cond-false _ (Some (get_or (members_in file behind) m [])) None (le-ltb m (length (members_in file behind)) (omega arith)))
+-- what is told of a pathway that was found
+pub id_told : (found : Option Group) (told : Option (Bor (List ℕ))) → told ≡ option_map (λ (g : Group). g.id) found → option_map (λ (x : Bor (List ℕ)). x.now) told ≡ id_of (option_map pathway_of found)
+id_told found told t = ap (option_map (λ (x : Bor (List ℕ)). x.now)) t ∙ known found
+  where
+    known : (o : Option Group) → option_map (λ (x : Bor (List ℕ)). x.now) (option_map (λ (g : Group). g.id) o) ≡ id_of (option_map pathway_of o)
+    known None = refl
+    known (Some g) = refl
 
-  -- the entry of a member is one of the contents
-  pub member-within : (m k : ℕ) → k ≡ length (members_in file behind) → m < k → i + 1 + m < count_of file
-  member-within m k e h =
-      omega (arith, members-few file behind, length-drop (i + 1) (contents file), length-contents file)
-
-  pub some-member : (m k : ℕ) (e : Entry) (rest : List Entry) (body : List ℕ) → k ≡ length (members_in file behind) → m < k
-      → drop (i + 1 + m) (contents file) ≡ e ∷ rest → body ≡ body_of file e → Some body ≡ member_of (numbered ps n) m
-  some-member m k e rest body is-k h step is_IsBody =
-      ap Some (is_IsBody ∙ sym (member_is file behind m e rest (omega arith) (drop-drop m (i + 1) (contents file) ∙ step)))
-      ∙ sym (member_in_lem m ∙ cond-true _ (Some (get_or (members_in file behind) m [])) None (lt-ltb m (length (members_in file behind)) (omega arith)))
+pub member_told : (m : ℕ) (told : Option (Bor (List ℕ))) (found : Option Group) → MatchOption found (told ≡ None) (λ g. option_map (λ (x : Bor (List ℕ)). x.now) told ≡ slice_get (pathway_of g).members m)
+    → option_map (λ (x : Bor (List ℕ)). x.now) told ≡ member_of (option_map pathway_of found) m
+member_told m told None t = ap (option_map (λ (x : Bor (List ℕ)). x.now)) t
+member_told m told (Some g) t = t ∙ get_is (pathway_of g).members m []

@@ -1,33 +1,9 @@
 -- The check of a service table: its rules in their order, each over the whole file. Assumes nothing.
-use Rattle.std.specs.Prelude.{ℕ, List, [], ◌∷◌, ◌++◌, length, Some, None, Ok, Err, Option, Result}
-use Rattle.terms.specs.declared.layer.Layer.TheVariants.{Description}
-use Rattle.terms.specs.declared.fault.Fault.{Fault}
-use Rattle.terms.specs.Faults.{Told, told}
+use Rattle.std.specs.Prelude.{ℕ, List, [], ◌∷◌, ◌++◌, length, Result}
+use Rattle.terms.specs.Faults.{Told}
+use Rattle.pathways.specs.Rules.{Rule, bad_length, judged}
 use Rattle.table.specs.Contents.{count_of, spot, contents}
-use Rattle.table.specs.Offences.{bad_length, bad_header, count_missing, contents_long, misplaced, overlong, left_over, unknown_kind, out_of_order, bad_id, repeated, bad_uri, bad_count}
-
--- a refusal's number, and the first offence that it is for
-pub record Rule : Type 0 where
-  pub number : ℕ
-  pub offence : Option ℕ
-
-abbrev pub verdict : ℕ → Option ℕ → Result (Unit {0}) Told
-verdict n (Some p) = Err (record { number = n; place = p; layer = Description })
-verdict n None = Ok tt
-
--- a call's answer without its value
-abbrev pub done : {X : Type 0} → Result X Fault → Result (Unit {0}) Told
-done (Ok x) = Ok tt
-done (Err f) = Err (told f)
-
--- the answer of the first rule that is broken
-abbrev pub and_then : Result (Unit {0}) Told → Result (Unit {0}) Told → Result (Unit {0}) Told
-and_then (Ok x) next = next
-and_then (Err t) next = Err t
-
-abbrev pub judged : List Rule → Result (Unit {0}) Told
-judged [] = Ok tt
-judged (r ∷ rs) = and_then (verdict r.number r.offence) (judged rs)
+use Rattle.table.specs.Offences.{bad_header, count_missing, contents_long, misplaced, overlong, left_over, unknown_kind, out_of_order, bad_id, repeated, bad_uri, bad_count}
 
 -- length, header, and how contents and bodies lie in the file
 abbrev pub layout : List ℕ → List Rule

@@ -48,6 +48,11 @@ abbrev pub entries_of : ℕ → List ℕ → List Entry
 entries_of zero bytes = []
 entries_of (suc n) bytes = entry_of bytes ∷ entries_of n (drop 5 bytes)
 
+-- the entries that bytes stand for, five each
+abbrev pub entries_in : List ℕ → List Entry
+entries_in (a ∷ b ∷ c ∷ d ∷ e ∷ rest) = record { kind = kind_of a; place = pair b c; size = pair d e } ∷ entries_in rest
+entries_in _ = []
+
 abbrev pub contents : List ℕ → List Entry
 contents file = entries_of (count_of file) (drop 6 file)
 

@@ -4,19 +4,12 @@ use Rattle.std.specs.Prelude.{ℕ, ◌+◌, Bool, true, false, cond, not, ◌&&�
 use Rattle.std.specs.Str.{bytes_eq}
 use Rattle.uri.specs.Legal.{legal}
 use Rattle.pathways.specs.Limits.{legal_id}
+use Rattle.pathways.specs.Rules.{placed}
 use Rattle.table.specs.declared.kind.Kind.{Kind}
 use Rattle.table.specs.declared.kind.Kind.TheVariants.{Steering, Id, Member, Unknown}
 use Rattle.table.specs.declared.entry.Entry.{Entry}
 use Rattle.table.specs.Contents.{headed, count_of, spot, body_of, is_id, is_member, is_unknown}
 use Rattle.table.specs.Reading.{pathways_in}
-
--- the place, where the test is met
-abbrev pub placed : Bool → ℕ → Option ℕ
-placed b p = cond b (Some p) None
-
--- no byte, or more than 65,535
-abbrev pub bad_length : List ℕ → Option ℕ
-bad_length file = placed (length file == 0 || nat_lt 65535 (length file)) 0
 
 abbrev pub bad_header : List ℕ → Option ℕ
 bad_header file = placed (not (headed file)) 0

@@ -7,10 +7,10 @@ use Rattle.table.specs.Reading.{pathways_in, meaning_of}
 use Rattle.table.specs.Checks.{checked}
 
 abbrev pub table_pathways : ServiceTable → List Pathway
-table_pathways t = pathways_in t.file.now (contents t.file.now)
+table_pathways t = pathways_in t.bodies.contents.file.now (contents t.bodies.contents.file.now)
 
 abbrev pub table_meaning : ServiceTable → Meaning
-table_meaning t = meaning_of t.file.now
+table_meaning t = meaning_of t.bodies.contents.file.now
 
 -- the example: a table of 59 bytes with the entries (0, 21, 19), (1, 40, 1) and (2, 41, 18)
 abbrev pub example : List ℕ

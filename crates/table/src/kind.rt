@@ -1,8 +1,46 @@
 // What an entry of the contents stands for.
-#[derive(Clone, Copy)]
+ghost use Rattle.std.specs.Prelude.{◌≡◌};
+ghost use Rattle.table.specs.Contents.{kind_of, is_id, is_member, is_unknown};
+
+#[derive(Clone, Copy, Debug, PartialEq, Eq)]
 pub enum Kind {
     Steering,
     Id,
     Member,
     Unknown,
+}
+
+// The kind that a byte of the contents names.
+impl From<u8> for Kind {
+    ghost from_gives = { λ b k. k ≡ kind_of b };
+
+    fn from(byte: u8) -> Kind {
+        match byte {
+            0 => Kind::Steering,
+            1 => Kind::Id,
+            2 => Kind::Member,
+            _ => Kind::Unknown,
+        }
+    }
+}
+
+// By `matches!` and not by the derived `==`, whose contract says less of the answer.
+impl Kind {
+    pub(crate) fn is_id(self) -> bool
+        ensures { result ≡ is_id self }
+    {
+        matches!(self, Kind::Id)
+    }
+
+    pub(crate) fn is_member(self) -> bool
+        ensures { result ≡ is_member self }
+    {
+        matches!(self, Kind::Member)
+    }
+
+    pub(crate) fn is_unknown(self) -> bool
+        ensures { result ≡ is_unknown self }
+    {
+        matches!(self, Kind::Unknown)
+    }
 }

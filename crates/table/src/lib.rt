@@ -1,6 +1,7 @@
 // Service tables: the binary form of a description.
 #![tactic(auto)]
 
+mod bodies;
 pub mod check;
 mod contents;
 pub mod entry;

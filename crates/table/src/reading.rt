@@ -2,12 +2,14 @@
 ghost use Rattle.std.specs.Prelude.{◌≡◌, true, is_ok};
 ghost use Rattle.table.specs.Checks.{checked};
 
+use crate::bodies::Bodies;
+
 mod making;
 mod questions;
 mod walking;
 
 #[derive(Drop)]
 pub struct ServiceTable<'a> {
-    file: &'a [u8],
-    ghost sound: { is_ok (checked file.now) ≡ true },
+    bodies: Bodies<'a>,
+    ghost sound: { is_ok (checked bodies.contents.file.now) ≡ true },
 }

@@ -1,37 +1,29 @@
 // The later rules of a service table: kinds and their order, IDs, URIs and counts.
-ghost use Rattle.std.specs.Prelude.{◌≡◌, ◌+◌, ◌<◌, ◌≤◌, not, ◌&&◌, [], length, take, drop};
-ghost use Rattle.std.specs.Str.{bytes_eq};
-ghost use Rattle.uri.specs.Legal.{legal};
-ghost use Rattle.pathways.specs.Limits.{legal_id};
-ghost use Rattle.table.specs.Contents.{count_of, spot, contents, Within, body_of, is_id};
+ghost use Rattle.std.specs.Prelude.{◌≡◌, ◌<◌, not, ◌&&◌, ◌==◌, [], length, take};
+ghost use Rattle.std.specs.Option.{option_to_list};
+ghost use Rattle.pathways.specs.Rules.{verdict, done, judged};
+ghost use Rattle.table.specs.Contents.{contents, is_id};
 ghost use Rattle.table.specs.Reading.{pathways_in};
-ghost use Rattle.table.specs.Offences.{unknown_kind, follows, out_of_order, bad_id, has_id, repeated, bad_uri, member_first, excess, bad_count};
-ghost use Rattle.table.specs.Checks.{verdict, done, judged, sense};
+ghost use Rattle.table.specs.Offences.{unknown_kind, follows, out_of_order, bad_id, has_id, repeated, bad_uri, excess, ids_now, members_now, bad_count};
+ghost use Rattle.table.specs.Checks.{sense};
 
-use crate::contents::{body_of, count_entries, entry_at, spot_of};
+use crate::bodies::Bodies;
+use crate::bodies::parts::Part;
+use crate::contents::Contents;
+use crate::contents::walk::spot_of;
 use crate::entry::Entry;
 use crate::kind::Kind;
-use crate::layout::{COUNT, refuse};
-use pathways::ids::is_legal_id;
+use crate::layout::COUNT;
+use pathways::answering::{hold, refuse};
+use pathways::limits::{MEMBERS, PATHWAYS};
 use terms::fault::Fault;
 use terms::refusal::Refusal;
-use uri::legality::is_legal;
 
-// The most pathways, and the most members of one.
-const PATHWAYS: usize = 16;
-
-const MEMBERS: usize = 32;
-
-fn check_kinds(file: &[u8]) -> Result<(), Fault>
-    requires { spot (count_of file.now) ≤ length file.now }
-    ensures { done result ≡ verdict 13 (unknown_kind 0 (contents file.now)) }
+fn check_kinds(table: &Contents) -> Result<(), Fault>
+    ensures { done result ≡ verdict 13 (unknown_kind 0 (contents table.now.file.now)) }
 {
-    for i in 0..count_entries(file) {
-        if entry_at(file, i).kind.is_unknown() {
-            return Err(refuse(Refusal::Order, spot_of(i)));
-        }
-    }
-    Ok(())
+    let offence = table.entries().position(|entry| entry.kind.is_unknown());
+    hold(Refusal::Order, offence.map(spot_of))
 }
 
 // Whether an entry may stand behind the one before it.
@@ -46,180 +38,135 @@ fn may_follow(before: Option<Kind>, kind: Kind) -> bool
     }
 }
 
-fn check_order(file: &[u8]) -> Result<(), Fault>
-    requires { spot (count_of file.now) ≤ length file.now }
-    ensures { done result ≡ verdict 13 (out_of_order (contents file.now)) }
+fn check_order(table: &Contents) -> Result<(), Fault>
+    ensures { done result ≡ verdict 13 (out_of_order (contents table.now.file.now)) }
 {
-    let count = count_entries(file);
-    if count == 0 {
+    if table.count() == 0 {
         return Err(refuse(Refusal::Order, COUNT));
     }
     let mut before = None;
-    for i in 0..count {
-        let kind = entry_at(file, i).kind;
-        if !may_follow(before, kind) {
+    for (i, entry) in table.entries().enumerate() {
+        if !may_follow(before, entry.kind) {
             return Err(refuse(Refusal::Order, spot_of(i)));
         }
-        before = Some(kind);
+        before = Some(entry.kind);
     }
     Ok(())
 }
 
-fn is_bad_id(file: &[u8], entry: Entry) -> bool
-    requires { entry.place + entry.size ≤ length file.now }
-    ensures { result ≡ (is_id entry.kind && not (legal_id (body_of file.now entry))) }
+fn check_ids(table: &Bodies) -> Result<(), Fault>
+    ensures { done result ≡ verdict 15 (bad_id table.now.contents.file.now (contents table.now.contents.file.now)) }
 {
-    entry.kind.is_id() && !is_legal_id(body_of(file, entry))
-}
-
-fn check_ids(file: &[u8]) -> Result<(), Fault>
-    requires fits { spot (count_of file.now) ≤ length file.now }
-    requires within { Within file.now }
-    ensures { done result ≡ verdict 15 (bad_id file.now (contents file.now)) }
-{
-    for i in 0..count_entries(file) {
-        let entry = entry_at(file, i);
-        if is_bad_id(file, entry) {
-            return Err(refuse(Refusal::PathwayId, entry.place));
-        }
-    }
-    Ok(())
-}
-
-// Whether an entry is that ID.
-fn is_that_id(file: &[u8], entry: Entry, id: &[u8]) -> bool
-    requires { entry.place + entry.size ≤ length file.now }
-    ensures { result ≡ (is_id entry.kind && bytes_eq (body_of file.now entry) id.now) }
-{
-    entry.kind.is_id() && body_of(file, entry) == id
+    let offence = table.parts().find(|part| part.is_bad_id());
+    hold(Refusal::PathwayId, offence.map(|part| part.entry.start()))
 }
 
 // Whether the ID stands among the first `end` entries.
-fn stands_before(file: &[u8], end: usize, id: &[u8]) -> bool
-    requires fits { spot (count_of file.now) ≤ length file.now }
-    requires within { Within file.now }
-    requires end { end ≤ count_of file.now }
-    ensures { result ≡ has_id file.now id.now (take end (contents file.now)) }
+fn stands_before(table: &Bodies, end: usize, id: &[u8]) -> bool
+    ensures { result ≡ has_id table.now.contents.file.now id.now (take end (contents table.now.contents.file.now)) }
 {
-    for i in 0..end {
-        if is_that_id(file, entry_at(file, i), id) {
-            return true;
-        }
-    }
-    false
+    table.parts().take(end).any(|part| part.is_that_id(id))
 }
 
-// Whether entry `i` is an ID that stands before it already.
-fn is_repeat(file: &[u8], i: usize, entry: Entry) -> bool
-    requires fits { spot (count_of file.now) ≤ length file.now }
-    requires within { Within file.now }
-    requires end { i ≤ count_of file.now }
-    requires body { entry.place + entry.size ≤ length file.now }
-    ensures { result ≡ (is_id entry.kind && has_id file.now (body_of file.now entry) (take i (contents file.now))) }
+// Whether part `i` is an ID that stands before it already.
+fn is_repeat(table: &Bodies, i: usize, part: &Part) -> bool
+    ensures { result ≡ (is_id part.now.entry.kind && has_id table.now.contents.file.now part.now.body.now (take i (contents table.now.contents.file.now))) }
 {
-    entry.kind.is_id() && stands_before(file, i, body_of(file, entry))
+    part.is_id() && stands_before(table, i, part.body)
 }
 
-fn check_repeats(file: &[u8]) -> Result<(), Fault>
-    requires fits { spot (count_of file.now) ≤ length file.now }
-    requires within { Within file.now }
-    ensures { done result ≡ verdict 15 (repeated file.now [] (contents file.now)) }
+fn check_repeats(table: &Bodies) -> Result<(), Fault>
+    ensures { done result ≡ verdict 15 (repeated table.now.contents.file.now [] (contents table.now.contents.file.now)) }
 {
-    for i in 0..count_entries(file) {
-        let entry = entry_at(file, i);
-        if is_repeat(file, i, entry) {
-            return Err(refuse(Refusal::PathwayId, entry.place));
-        }
-    }
-    Ok(())
+    let offence = table
+        .parts()
+        .enumerate()
+        .find(|(i, part)| is_repeat(table, *i, part));
+    hold(
+        Refusal::PathwayId,
+        offence.map(|(_, part)| part.entry.start()),
+    )
 }
 
-fn is_bad_uri(file: &[u8], entry: Entry) -> bool
-    requires { entry.place + entry.size ≤ length file.now }
-    ensures { result ≡ (not (is_id entry.kind) && not (legal (body_of file.now entry))) }
+fn check_uris(table: &Bodies) -> Result<(), Fault>
+    ensures { done result ≡ verdict 16 (bad_uri table.now.contents.file.now (contents table.now.contents.file.now)) }
 {
-    !entry.kind.is_id() && !is_legal(body_of(file, entry))
+    let offence = table.parts().find(|part| part.is_bad_uri());
+    hold(Refusal::Uri, offence.map(|part| part.entry.start()))
 }
 
-fn check_uris(file: &[u8]) -> Result<(), Fault>
-    requires fits { spot (count_of file.now) ≤ length file.now }
-    requires within { Within file.now }
-    ensures { done result ≡ verdict 16 (bad_uri file.now (contents file.now)) }
-{
-    for i in 0..count_entries(file) {
-        let entry = entry_at(file, i);
-        if is_bad_uri(file, entry) {
-            return Err(refuse(Refusal::Uri, entry.place));
-        }
-    }
-    Ok(())
+// How many IDs stood so far, and how many members of the latest.
+#[derive(Clone, Copy)]
+struct Tally {
+    ids: usize,
+    members: usize,
 }
 
-// How many pathways there are: one for each ID.
-pub(crate) fn count_pathways(file: &[u8]) -> usize
-    requires { spot (count_of file.now) ≤ length file.now }
-    ensures { result ≡ length (pathways_in file.now (contents file.now)) }
-{
-    let mut found = 0;
-    for i in 0..count_entries(file) {
-        if entry_at(file, i).kind.is_id() {
-            found += 1;
-        }
-    }
-    found
-}
-
-// Whether entry `i` is there and is a member.
-fn is_member_at(file: &[u8], i: usize) -> bool
-    requires { spot (count_of file.now) ≤ length file.now }
-    ensures { result ≡ member_first (drop i (contents file.now)) }
-{
-    i < count_entries(file) && entry_at(file, i).kind.is_member()
-}
-
-// Whether an entry behind so many IDs, and so many members of the latest, is one too many, or an ID that no member follows.
-fn is_excess(ids: usize, members: usize, kind: Kind, file: &[u8], next: usize) -> bool
-    requires { spot (count_of file.now) ≤ length file.now }
-    ensures { result ≡ excess ids members kind (drop next (contents file.now)) }
+// Whether an entry with such a one behind it is one too many, or an ID that no member follows.
+fn is_excess(tally: Tally, kind: Kind, next: Option<Entry>) -> bool
+    ensures { result ≡ excess tally.ids tally.members kind (option_to_list next) }
 {
     match kind {
-        Kind::Id => ids >= PATHWAYS || !is_member_at(file, next),
-        Kind::Member => members >= MEMBERS,
+        Kind::Id => tally.ids >= PATHWAYS || !next.is_some_and(|entry| entry.kind.is_member()),
+        Kind::Member => tally.members >= MEMBERS,
         Kind::Steering | Kind::Unknown => false,
     }
 }
 
-fn check_counts(file: &[u8]) -> Result<(), Fault>
-    requires { spot (count_of file.now) ≤ length file.now }
-    ensures { done result ≡ verdict 17 (bad_count file.now (contents file.now)) }
+fn counted(tally: Tally, kind: Kind) -> Tally
+    requires ids { tally.ids < 65536 }
+    requires members { tally.members < 65536 }
+    ensures ids { result.ids ≡ ids_now tally.ids kind }
+    ensures members { result.members ≡ members_now tally.members kind }
 {
-    if count_pathways(file) == 0 {
+    Tally {
+        ids: if kind.is_id() {
+            tally.ids + 1
+        } else {
+            tally.ids
+        },
+        members: if kind.is_member() {
+            tally.members + 1
+        } else {
+            0
+        },
+    }
+}
+
+// Whether there is a pathway.
+fn has_pathway(table: &Contents) -> bool
+    ensures { result ≡ not (length (pathways_in table.now.file.now (contents table.now.file.now)) == 0) }
+{
+    table.entries().any(|entry| entry.kind.is_id())
+}
+
+fn check_counts(table: &Contents) -> Result<(), Fault>
+    ensures { done result ≡ verdict 17 (bad_count table.now.file.now (contents table.now.file.now)) }
+{
+    if !has_pathway(table) {
         return Err(refuse(Refusal::Count, COUNT));
     }
-    let mut ids = 0;
-    let mut members = 0;
-    for i in 0..count_entries(file) {
-        let kind = entry_at(file, i).kind;
-        if is_excess(ids, members, kind, file, i + 1) {
+    let mut tally = Tally { ids: 0, members: 0 };
+    // Goes one entry ahead.
+    let mut behind = table.entries();
+    behind.next();
+    for (i, entry) in table.entries().enumerate() {
+        let next = behind.next();
+        if is_excess(tally, entry.kind, next) {
             return Err(refuse(Refusal::Count, spot_of(i)));
         }
-        if kind.is_id() {
-            ids += 1;
-        }
-        members = if kind.is_member() { members + 1 } else { 0 };
+        tally = counted(tally, entry.kind);
     }
     Ok(())
 }
 
-pub(crate) fn check_sense(file: &[u8]) -> Result<(), Fault>
-    requires fits { spot (count_of file.now) ≤ length file.now }
-    requires within { Within file.now }
-    ensures { done result ≡ judged (sense file.now) }
+pub(crate) fn check_sense(table: &Bodies) -> Result<(), Fault>
+    ensures { done result ≡ judged (sense table.now.contents.file.now) }
 {
-    check_kinds(file)?;
-    check_order(file)?;
-    check_ids(file)?;
-    check_repeats(file)?;
-    check_uris(file)?;
-    check_counts(file)
+    check_kinds(&table.contents)?;
+    check_order(&table.contents)?;
+    check_ids(table)?;
+    check_repeats(table)?;
+    check_uris(table)?;
+    check_counts(&table.contents)
 }

@@ -5,7 +5,9 @@ ghost use Rattle.table.specs.Format.{Table, meant};
 ghost use Rattle.table.specs.Tables.{example, opened, described, table_meaning};
 
 use super::ServiceTable;
-use crate::check::check;
+use crate::bodies::Bodies;
+use crate::check::check_all;
+use crate::contents::Contents;
 
 // A table with an entry of each kind: DASH, steered by https://s.example/a, one pathway `a` with the member https://c.example/.
 static EXAMPLE: [u8; 59] =
@@ -17,14 +19,23 @@ fn example_file() -> &'static [u8]
     &EXAMPLE
 }
 
-// The file where it passes the check, else the example's.
-fn sound_file(file: &[u8]) -> &[u8]
-    ensures is { result.now ≡ opened file.now }
-    ensures sound { is_ok (checked result.now) ≡ true }
+fn example_bodies() -> Bodies<'static>
+    ensures { result.contents.file.now ≡ example }
 {
-    match check(file) {
-        Ok(_) => file,
-        Err(_) => example_file(),
+    let file = example_file();
+    Bodies {
+        contents: Contents { file },
+    }
+}
+
+// The file where it passes the check, else the example's.
+fn sound_bodies(file: &[u8]) -> Bodies<'_>
+    ensures is { result.contents.file.now ≡ opened file.now }
+    ensures sound { is_ok (checked result.contents.file.now) ≡ true }
+{
+    match check_all(file) {
+        Ok(bodies) => bodies,
+        Err(_) => example_bodies(),
     }
 }
 
@@ -34,7 +45,7 @@ impl<'a> ServiceTable<'a> {
         ensures value { table_meaning result ≡ described file.now }
         ensures written { (t : Table file.now) → table_meaning result ≡ meant t }
     {
-        let file = sound_file(file);
-        ServiceTable { file }
+        let bodies = sound_bodies(file);
+        ServiceTable { bodies }
     }
 }

@@ -1,70 +1,63 @@
-// Walking the contents of a checked file to a pathway and its members.
-ghost use Rattle.std.specs.Prelude.{◌≡◌, ◌+◌, ◌<◌, ◌≤◌, length, drop, MatchOption, slice_index_or};
+// Walking the parts of a checked file from pathway to pathway.
+ghost use Rattle.std.specs.Prelude.{◌≡◌, MatchOption, length, slice_get};
+ghost use Rattle.std.specs.Iterator.{YieldsFirstBy, item_count};
 ghost use Rattle.std.specs.Option.{option_map};
-ghost use Rattle.pathways.specs.Meaning.{nowhere};
-ghost use Rattle.pathways.specs.Questions.{numbered, id_of, members_of, member_of};
-ghost use Rattle.table.specs.Contents.{count_of, spot, contents, Within};
-ghost use Rattle.table.specs.Reading.{members_in, pathway_at, pathways_in};
+ghost use Rattle.table.specs.Contents.{contents};
+ghost use Rattle.table.specs.Reading.{pathways_in};
+ghost use Rattle.table.specs.Walks.{pathway_of, pathways_left};
 
-use crate::contents::{body_of, count_entries, entry_at};
+use crate::bodies::Bodies;
+use crate::bodies::parts::Parts;
 
-// The entry of the ID of a pathway.
-fn locate(file: &[u8], number: usize) -> Option<usize>
-    requires { spot (count_of file.now) ≤ length file.now }
-    ensures { MatchOption result (length (pathways_in file.now (contents file.now)) ≤ number)
-        (λ i. (i < count_of file.now) × (number < length (pathways_in file.now (contents file.now)))
-        × (slice_index_or (pathways_in file.now (contents file.now)) number nowhere ≡ pathway_at file.now (drop i (contents file.now)))) }
-{
-    let mut left = number;
-    for i in 0..count_entries(file) {
-        if entry_at(file, i).kind.is_id() {
-            if left == 0 {
-                return Some(i);
-            }
-            left -= 1;
-        }
+// A pathway: its ID, and the parts behind it, which begin with its members.
+#[derive(Clone, Copy, Drop)]
+pub(crate) struct Group<'a> {
+    pub(crate) id: &'a [u8],
+    behind: Parts<'a>,
+}
+
+impl<'a> Group<'a> {
+    pub(crate) fn count_members(self) -> usize
+        ensures { result ≡ length (pathway_of self.entry).members }
+    {
+        self.behind.take_while(|part| part.is_member()).count()
     }
-    None
-}
 
-// How many members stand from entry `from` on, up to the next entry of another kind.
-fn count_members(file: &[u8], from: usize) -> usize
-    requires { spot (count_of file.now) ≤ length file.now }
-    ensures { result ≡ length (members_in file.now (drop from (contents file.now))) }
-{
-    let count = count_entries(file);
-    let mut i = from;
-    while i < count && entry_at(file, i).kind.is_member() {
-        i += 1;
+    // The URI of a member.
+    pub(crate) fn member(self, number: usize) -> Option<&'a [u8]>
+        ensures { option_map (λ x. x.now) result ≡ slice_get (pathway_of self.entry).members number }
+    {
+        let part = self.behind.take_while(|part| part.is_member()).nth(number);
+        part.map(|part| part.body)
     }
-    i - from
 }
 
-pub(crate) fn id_at(file: &[u8], number: usize) -> Option<&[u8]>
-    requires fits { spot (count_of file.now) ≤ length file.now }
-    requires within { Within file.now }
-    ensures { option_map (λ x. x.now) result ≡ id_of (numbered (pathways_in file.now (contents file.now)) number) }
-{
-    let i = locate(file, number)?;
-    Some(body_of(file, entry_at(file, i)))
+// The pathways that are left.
+#[derive(Drop)]
+pub(crate) struct Groups<'a> {
+    parts: Parts<'a>,
 }
 
-pub(crate) fn members_at(file: &[u8], number: usize) -> Option<usize>
-    requires { spot (count_of file.now) ≤ length file.now }
-    ensures { result ≡ members_of (numbered (pathways_in file.now (contents file.now)) number) }
-{
-    let i = locate(file, number)?;
-    Some(count_members(file, i + 1))
-}
+impl<'a> Iterator for Groups<'a> {
+    type Item = Group<'a>;
 
-pub(crate) fn member_at(file: &[u8], number: usize, member: usize) -> Option<&[u8]>
-    requires fits { spot (count_of file.now) ≤ length file.now }
-    requires within { Within file.now }
-    ensures { option_map (λ x. x.now) result ≡ member_of (numbered (pathways_in file.now (contents file.now)) number) member }
-{
-    let i = locate(file, number)?;
-    if member >= count_members(file, i + 1) {
-        return None;
+    ghost next_gives = { YieldsFirstBy pathway_of pathways_left };
+
+    ghost remaining = { item_count pathways_left };
+
+    fn next(&mut self) -> Option<Group<'a>> {
+        let part = self.parts.find(|part| part.is_id())?;
+        Some(Group {
+            id: part.body,
+            behind: self.parts,
+        })
     }
-    Some(body_of(file, entry_at(file, i + 1 + member)))
+}
+
+pub(crate) fn pathways<'a>(bodies: &Bodies<'a>) -> Groups<'a>
+    ensures { pathways_left result ≡ pathways_in bodies.now.contents.file.now (contents bodies.now.contents.file.now) }
+{
+    Groups {
+        parts: bodies.parts(),
+    }
 }

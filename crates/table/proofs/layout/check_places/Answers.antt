@@ -1,13 +1,27 @@
-use Rattle.std.proofs.Common.{sym, ap, ◌∙◌, arith}
+use Rattle.std.proofs.Common.{length, sym, ap, ◌∙◌, arith}
+use Rattle.table.specs.Contents.{spot, contents}
 use Rattle.table.specs.Offences.{misplaced, end_of}
-use Rattle.table.proofs.Entries.{no_more}
-use Rattle.table.proofs.Loops.{passed}
+use Rattle.table.proofs.Entries.{length-contents}
+use Rattle.table.proofs.Loops.{begun, misplaced_on, end_on}
 use Rattle.table.proofs.layout.check_places.Goals as goal
 
-pub returns : goal.returns
-returns c =
-    let done = no_more c.args.file.now c.loop-i.i (omega (arith, c.count_entries-count.ensures.value)) in
-    record {
-      answer = passed 12 _ (c.loop-i.invariant.0 ∙ ap (misplaced c.loop-i.i c.loop-i.due) done);
-      end = sym (c.loop-i.invariant.1 ∙ ap (end_of c.loop-i.due) done);
-    }
+pub loop-i-init : goal.loop-i-init
+loop-i-init c =
+    let file = c.args.table.now.file.now in
+    let start = begun _ _ _ (contents file) c.into_iter-i-iterator.ensures.into_iter_gives c.enumerate-i-items.ensures.source c.enumerate-i-items.ensures.count c.entries.ensures in
+    let first = sym start.0 in
+    let es = sym start.1 in
+    let due = sym (c.spot_of-due.ensures ∙ ap spot c.count.ensures.value) in (
+      omega (arith, start.0, ap length start.1, length-contents file),
+      (λ j. misplaced (first j) (due j) (es j)),
+      (λ j. end_of (due j) (es j)),
+    )
+
+pub loop-i-preserved : goal.loop-i-preserved
+loop-i-preserved c =
+    let step = c.in-Some.ensures.steps in
+    let here = c.loop-i.invariant in (
+      omega (arith, here.0, ap length step.0, step.2),
+      here.1 ∙ misplaced_on _ _ c.in-Some.entry step.0 _ _ _ _ step.2 (sym c.start.ensures ∙ c.if-start-due.false) c.end-due.ensures,
+      here.2 ∙ end_on _ _ c.in-Some.entry step.0 _ _ (sym c.start.ensures ∙ c.if-start-due.false) c.end-due.ensures,
+    )

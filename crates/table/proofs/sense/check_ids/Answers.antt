@@ -1,9 +1,19 @@
-use Rattle.std.proofs.Common.{ap, ◌∙◌, arith}
+use Rattle.std.proofs.Common.{ℕ, Bool, not, ◌&&◌, List, refl, ap, ◌∙◌, rules}
+use borrow.Author.Tests.{tests}
+use Rattle.std.proofs.lemmas.Iterator.Consumers.{YieldsList-from_first}
+use Rattle.std.proofs.lemmas.Iterator.Search.{find_from_yields_List}
+use Rattle.pathways.specs.Limits.{legal_id}
+use Rattle.pathways.specs.Rules.{verdict}
+use Rattle.table.specs.declared.entry.Entry.{Entry}
+use Rattle.table.specs.Contents.{contents, is_id}
 use Rattle.table.specs.Offences.{bad_id}
-use Rattle.table.proofs.Entries.{no_more}
-use Rattle.table.proofs.Loops.{passed}
+use Rattle.table.specs.Parts.{shown, parts_left}
+use Rattle.table.proofs.Searches.{told_place}
 use Rattle.table.proofs.sense.check_ids.Goals as goal
 
 pub returns : goal.returns
 returns c =
-    passed 15 _ (c.loop-i.invariant ∙ ap (bad_id c.args.file.now) (no_more c.args.file.now c.loop-i.i (omega (arith, c.count_entries-i-end.ensures.value))))
+    let file = c.args.table.now.contents.file.now in
+    let test : Entry × List ℕ → Bool = λ p. is_id p.0.kind && not (legal_id p.1) in
+    let found = find_from_yields_List test c.find-offence.new.self _ c.find-offence.result c.find-offence.ensures.ran (YieldsList-from_first shown parts_left _ c.parts.ensures) (λ x b q k. search (rules, tests)) in
+    c.hold.ensures ∙ ap (verdict 15) (told_place file test (bad_id file) refl (λ e es. refl) (contents file) c.find-offence.result c.map.result (search rules) found)

@@ -1,13 +1,27 @@
-use Rattle.std.proofs.Common.{ap, ◌∙◌, arith}
+use Rattle.std.proofs.Common.{length, None, sym, ap, ◌∙◌, arith}
 use Rattle.table.specs.Contents.{contents}
 use Rattle.table.specs.Offences.{disordered}
-use Rattle.table.proofs.Entries.{no_more, length-contents}
-use Rattle.table.proofs.Loops.{passed, some_order}
+use Rattle.table.proofs.Entries.{length-contents}
+use Rattle.table.proofs.Loops.{number, begun, ordered_on, some_order, passed}
 use Rattle.table.proofs.sense.check_order.Goals as goal
+
+pub loop-i-init : goal.loop-i-init
+loop-i-init c =
+    let file = c.args.table.now.file.now in
+    let start = begun _ _ _ (contents file) c.into_iter-i-iterator.ensures.into_iter_gives c.enumerate-i-items.ensures.source c.enumerate-i-items.ensures.count c.entries.ensures in
+    let first = sym start.0 in
+    let es = sym start.1 in
+    (omega (arith, start.0, ap length start.1, length-contents file), λ j. disordered None (first j) (es j))
+
+pub loop-i-preserved : goal.loop-i-preserved
+loop-i-preserved c =
+    let step = c.in-Some.ensures.steps in
+    let here = c.loop-i.invariant in
+    (omega (arith, here.0, ap length step.0, step.2), here.1 ∙ ordered_on _ _ c.in-Some.entry step.0 _ _ _ step.2 (sym c.if-not-may_follow.ensures))
 
 pub returns : goal.returns
 returns c =
     passed 13 _
-    (some_order (contents c.args.file.now) (omega (arith, length-contents c.args.file.now, c.count_entries-count.ensures.value))
-    ∙ c.loop-i.invariant
-    ∙ ap (disordered c.loop-i.before c.loop-i.i) (no_more c.args.file.now c.loop-i.i (omega (arith, c.count_entries-count.ensures.value))))
+    (some_order (contents c.args.table.now.file.now) (omega (arith, length-contents c.args.table.now.file.now, c.count.ensures.value))
+    ∙ c.loop-i.invariant.1
+    ∙ ap (disordered c.loop-i.before (number c.loop-i.i-iterator)) c.in-None.ensures.steps.0.0)

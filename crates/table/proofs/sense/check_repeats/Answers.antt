@@ -1,17 +1,22 @@
-use Rattle.std.proofs.Common.{◌+◌, List, take, drop, sym, ap, ◌∙◌, arith}
+use Rattle.std.proofs.Common.{ℕ, List, ap, ◌∙◌, inl, arith, rules}
+use borrow.Author.Tests.{tests}
+use Rattle.std.proofs.lemmas.List.{length-map}
+use Rattle.std.proofs.lemmas.Iterator.Consumers.{YieldsList-from_first, YieldsList-from_enumerate, YieldsList-at}
+use Rattle.std.proofs.lemmas.Iterator.Search.{find_from_yields_List}
+use Rattle.pathways.specs.Rules.{verdict}
 use Rattle.table.specs.declared.entry.Entry.{Entry}
 use Rattle.table.specs.Contents.{contents}
-use Rattle.table.specs.Offences.{repeated}
-use Rattle.table.proofs.Entries.{no_more, taken_more}
-use Rattle.table.proofs.Loops.{passed, repeat_on}
+use Rattle.table.specs.Parts.{shown, parts_left}
+use Rattle.table.proofs.Searches.{repeats, told_repeat}
 use Rattle.table.proofs.sense.check_repeats.Goals as goal
 
-pub loop-i-preserved : goal.loop-i-preserved
-loop-i-preserved c =
-    c.loop-i.invariant
-    ∙ repeat_on c.args.file.now _ _ c.entry_at-entry.result c.entry_at-entry.ensures.step (take c.loop-i.i (contents c.args.file.now)) (sym c.if-is_repeat.ensures)
-    ∙ ap (λ (l : List Entry). repeated c.args.file.now l (drop (c.loop-i.i + 1) (contents c.args.file.now))) (sym (taken_more (contents c.args.file.now) _ c.loop-i.i c.entry_at-entry.result c.entry_at-entry.ensures.step))
+pub find-offence-requires-clause-can : goal.find-offence-requires-clause-can
+find-offence-requires-clause-can c =
+    (tt, tt, inl (omega (arith, length-map {A = Entry} {B = Entry × List ℕ}, c.enumerate.result.iter.entries.few, c.enumerate.ensures.count)))
 
 pub returns : goal.returns
 returns c =
-    passed 15 _ (c.loop-i.invariant ∙ ap (repeated c.args.file.now _) (no_more c.args.file.now c.loop-i.i (omega (arith, c.count_entries-i-end.ensures.value))))
+    let file = c.args.table.now.contents.file.now in
+    let es = contents file in
+    let found = find_from_yields_List (repeats file es) c.find-offence.new.self _ c.find-offence.result c.find-offence.ensures.ran (YieldsList-from_enumerate (YieldsList-at c.enumerate.ensures.source (YieldsList-from_first shown parts_left _ c.parts.ensures)) c.enumerate.ensures.count) (λ x b q k. search (rules, tests)) in
+    c.hold.ensures ∙ ap (verdict 15) (told_repeat file es c.find-offence.result c.map.result (search rules) found)

@@ -1,19 +1,18 @@
-use Rattle.std.proofs.Common.{take, sym, ap, ◌∙◌, arith}
-use Rattle.std.proofs.lemmas.List.{drop_all, length-take}
-use Rattle.table.specs.Contents.{contents}
-use Rattle.table.specs.Offences.{has_id}
-use Rattle.table.proofs.Entries.{front_step}
-use Rattle.table.proofs.Loops.{has_on, has_here}
+use Rattle.std.proofs.Common.{ℕ, Bool, ◌&&◌, List, ◌∙◌, rules}
+use borrow.Author.Tests.{tests}
+use Rattle.std.specs.Str.{bytes_eq}
+use Rattle.std.proofs.lemmas.Iterator.{YieldsList-from_take}
+use Rattle.std.proofs.lemmas.Iterator.Consumers.{YieldsList-from_first, YieldsList-at}
+use Rattle.std.proofs.lemmas.Iterator.Search.{any_from_yields_List}
+use Rattle.table.specs.declared.entry.Entry.{Entry}
+use Rattle.table.specs.Contents.{contents, is_id}
+use Rattle.table.specs.Parts.{shown, parts_left}
+use Rattle.table.proofs.Searches.{has_any}
 use Rattle.table.proofs.sense.stands_before.Goals as goal
-
-pub returns-then-is_that_id : goal.returns-then-is_that_id
-returns-then-is_that_id c =
-    sym (c.loop-i.invariant ∙ has_here c.args.file.now _ _ c.entry_at.result (front_step (contents c.args.file.now) _ c.loop-i.i c.entry_at.result c.entry_at.ensures.step c.args.end c.loop-i-test.true) c.args.id.now (sym c.if-is_that_id.ensures))
-
-pub loop-i-preserved : goal.loop-i-preserved
-loop-i-preserved c =
-    c.loop-i.invariant ∙ has_on c.args.file.now _ _ c.entry_at.result (front_step (contents c.args.file.now) _ c.loop-i.i c.entry_at.result c.entry_at.ensures.step c.args.end c.loop-i-test.true) c.args.id.now (sym c.if-is_that_id.ensures)
 
 pub returns : goal.returns
 returns c =
-    sym (c.loop-i.invariant ∙ ap (has_id c.args.file.now c.args.id.now) (drop_all c.loop-i.i (take c.args.end (contents c.args.file.now)) (omega (arith, length-take c.args.end (contents c.args.file.now)))))
+    let file = c.args.table.now.contents.file.now in
+    let test : Entry × List ℕ → Bool = λ p. is_id p.0.kind && bytes_eq p.1 c.args.id.now in
+    any_from_yields_List test c.any.new.self _ c.any.result c.any.ensures.ran (YieldsList-from_take c.args.end (YieldsList-at c.take.ensures.source (YieldsList-from_first shown parts_left _ c.parts.ensures)) c.take.ensures.count) (λ x b q k. search (rules, tests))
+    ∙ has_any file c.args.id.now c.args.end (contents file)

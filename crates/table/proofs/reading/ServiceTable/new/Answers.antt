@@ -3,7 +3,5 @@ use Rattle.table.specs.Reading.{meaning_of}
 use Rattle.table.proofs.Format.{described-meant}
 use Rattle.table.proofs.reading.ServiceTable.new.Goals as goal
 
-pub returns : goal.returns
-returns c =
-    let is = ap meaning_of c.sound_file-file.ensures.is in
-    record { value = is; written = λ t. is ∙ described-meant c.args.file.now t }
+pub returns-clause-written : goal.returns-clause-written
+returns-clause-written c = λ t. ap meaning_of c.sound_bodies-bodies.ensures.is ∙ described-meant c.args.file.now t

@@ -1,7 +1,0 @@
-use Rattle.std.proofs.Common.{◌≡◌, drop}
-use Rattle.table.specs.Contents.{contents}
-use Rattle.table.specs.Offences.{bad_id}
-use Rattle.table.proofs.sense.check_ids.Given as goal
-
-abbrev pub invariant-loop-i : goal.invariant-loop-i
-invariant-loop-i l = bad_id l.file (contents l.file) ≡ bad_id l.file (drop l.i (contents l.file))
