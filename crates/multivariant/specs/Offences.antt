@@ -6,6 +6,7 @@ use Rattle.uri.specs.Legal.{legal}
 use Rattle.references.specs.Resolution.{resolved}
 use Rattle.pathways.specs.Limits.{legal_id}
 use Rattle.pathways.specs.Rules.{placed}
+pub use Rattle.pathways.specs.Rules.{bad_length}
 use Rattle.tags.specs.declared.kind.Kind.{Kind}
 use Rattle.tags.specs.declared.kind.Kind.TheVariants.{Steering, Stream, Uri, Other}
 use Rattle.tags.specs.Lines.{Row}
@@ -17,10 +18,6 @@ use Rattle.multivariant.specs.Streams.{Served, streams_of, pathway_of, has_strea
 -- the playlist's own URI is illegal
 abbrev pub bad_own : List ℕ → Option ℕ
 bad_own own = placed (not (legal own)) 0
-
--- no byte, or more than 65,535
-abbrev pub bad_length : List ℕ → Option ℕ
-bad_length text = placed (length text == 0 || nat_lt 65535 (length text)) 0
 
 abbrev pub is_first : List Row → Bool
 is_first [] = false

@@ -16,7 +16,7 @@ use crate::kinds::is_tag;
 use crate::offences::{bad_id, bad_uri, bare_id, has_quoted_server, is_known, is_served};
 use crate::steering::bad_steering;
 use crate::tag::list_of;
-use pathways::answering::refuse;
+use pathways::answering::{check_length, hold, refuse};
 use tags::attributes::{is_list, repeats_name};
 use tags::kind::Kind;
 use tags::line::Line;
@@ -25,19 +25,6 @@ use terms::fault::Fault;
 use terms::refusal::Refusal;
 use uri::legality::is_legal;
 
-// The most bytes that a playlist may have.
-const PLAYLIST_BYTES: usize = 65535;
-
-// Refuses the text where an offence was found.
-fn hold(refusal: Refusal, offence: Option<usize>) -> Result<(), Fault>
-    ensures { done result ≡ verdict (number refusal) offence }
-{
-    match offence {
-        Some(place) => Err(refuse(refusal, place)),
-        None => Ok(()),
-    }
-}
-
 fn check_own(own: &[u8]) -> Result<(), Fault>
     ensures { done result ≡ verdict 9 (bad_own own.now) }
 {
@@ -45,15 +32,6 @@ fn check_own(own: &[u8]) -> Result<(), Fault>
         return Ok(());
     }
     Err(refuse(Refusal::OwnUri, 0))
-}
-
-fn check_length(text: &[u8]) -> Result<(), Fault>
-    ensures { done result ≡ verdict 10 (bad_length text.now) }
-{
-    if text.len() == 0 || text.len() > PLAYLIST_BYTES {
-        return Err(refuse(Refusal::Length, 0));
-    }
-    Ok(())
 }
 
 // Whether the first line is `#EXTM3U`.

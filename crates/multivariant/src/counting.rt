@@ -6,11 +6,7 @@ ghost use Rattle.multivariant.specs.Offences.{excess, pathways_now, overrun, bad
 
 use crate::stream::Stream;
 use crate::streams::{is_of, pathway_of, streams_of};
-
-// The most pathways, and the most streams of one.
-const PATHWAYS: usize = 16;
-
-const STREAMS: usize = 32;
+use pathways::limits::{MEMBERS, PATHWAYS};
 
 // How many of the first `end` streams belong to the pathway.
 fn count_streams(text: &[u8], end: usize, id: &[u8]) -> usize
@@ -29,7 +25,7 @@ fn is_excess(pathways: usize, same: usize) -> bool
     if same == 0 {
         return pathways >= PATHWAYS;
     }
-    same >= STREAMS
+    same >= MEMBERS
 }
 
 fn pathways_now(pathways: usize, same: usize) -> usize
