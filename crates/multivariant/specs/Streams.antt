@@ -27,10 +27,6 @@ streams_in tag (r ∷ rs) = elim r.kind [
 abbrev pub streams_of : List ℕ → List Served
 streams_of text = streams_in no_tag (rows_of text)
 
--- the streams from the line that begins at `at`
-abbrev pub streams_at : (at : ℕ) → List ℕ → List Served
-streams_at at text = streams_in no_tag (rows_at at false text)
-
 -- the pathway that a stream belongs to
 abbrev pub pathway_of : Served → List ℕ
 pathway_of s = named (id_of s.tag)

@@ -119,6 +119,3 @@ module _ (text : List ℕ) (at : ℕ) (waits : Bool) (within : at ≤ length tex
       let there : n ≡ place 10 rest = long ∙ ap (place 10) b in
       let is : found ≡ line = f ∙ ap (λ (l : List ℕ). trimmed (ltb n (length l)) (take (n - 0) l)) b ∙ line_found n there in
       (row-shown found kind n w is sort there turn, row_step found kind n w is sort there turn, (omega arith, omega (arith, there, next-within)), omega (arith, ap length is, line_within))
-
-pub rows_none : (text : List ℕ) (at : ℕ) (waits : Bool) → length text < at → rows_at at waits text ≡ []
-rows_none text at waits h = cond-false (leb at (length text)) (rows at waits (parts 10 (drop at text))) [] (lt-leb at (length text) h)

@@ -106,9 +106,6 @@ module _ (list : List ℕ) (at : ℕ) (within : at ≤ length list) where
         ap (λ (m : ℕ). at + m + 1) (ap length front ∙ long ∙ sym same),
       )
 
-pub fields-none : (list : List ℕ) (at : ℕ) → length list < at → fields_at at list ≡ []
-fields-none list at h = cond-false (leb at (length list)) (placed at (fields false (drop at list))) [] (lt-leb at (length list) h)
-
 -- a value that begins with a quote
 pub quoted-value : (value : List ℕ) → 1 ≤ length value → get_or value 0 0 ≡ 34 → is_closed (drop 1 value) ≡ is_value value
 quoted-value [] h e = absurd (omega arith)

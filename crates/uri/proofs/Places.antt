@@ -5,20 +5,6 @@ use Rattle.std.proofs.lemmas.Bool.{cond-true, cond-false, eq-eqb, ne_eqb, lt-ltb
 use Rattle.uri.specs.Cuts.{place, before, behind_at, holds}
 use Rattle.uri.specs.Splits.{has_scheme, scheme, behind_scheme, slashes, authority, path}
 
-module _ (b : ℕ) (text : List ℕ) (i : ℕ) where
-  pub place_here : i < length text → get_or text i 0 ≡ b → place b (drop i text) ≡ 0
-  place_here h e =
-      at_drop_more (place b) text i 0 h
-      ∙ cond-true (eqb (get_or text i 0) b) 0 (suc (place b (drop (i + 1) text))) (eq-eqb (get_or text i 0) b e)
-
-  pub place-later : i < length text → (get_or text i 0 ≡ b → ⊥) → place b (drop i text) ≡ suc (place b (drop (i + 1) text))
-  place-later h e =
-      at_drop_more (place b) text i 0 h
-      ∙ cond-false (eqb (get_or text i 0) b) 0 (suc (place b (drop (i + 1) text))) (ne_eqb (get_or text i 0) b e)
-
-  pub place_end : length text ≤ i → place b (drop i text) ≡ 0
-  place_end h = at_drop_all (place b) text i h
-
 le_cond : (t : Bool) (n m : ℕ) → n ≤ m → cond t 0 (suc n) ≤ suc m
 le_cond true n m h = zero-le
 le_cond false n m h = suc-le-suc h
