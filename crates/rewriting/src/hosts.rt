@@ -33,6 +33,7 @@ fn write_authority<const N: usize>(draft: &mut Draft<N>, host: &[u8], authority:
 }
 
 // The URI with the host, in at most N bytes.
+#[tactic(auto, using(crate::proofs::Written::five_written, crate::proofs::Written::host_written))]
 fn written<const N: usize>(uri: &[u8], host: &[u8]) -> Option<Text<N>>
     ensures { option_map content result ≡ bounded N (with_host host.now uri.now) }
 {

@@ -34,6 +34,7 @@ fn write_assigned<const N: usize>(draft: &mut Draft<N>, mark: u8, name: &[u8], v
 }
 
 // Writes the new query with its `?`.
+#[tactic(auto, using(crate::proofs::Steps::part_then))]
 fn write_query<const N: usize>(
     draft: &mut Draft<N>,
     query: Option<&[u8]>,

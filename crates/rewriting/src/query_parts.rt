@@ -41,6 +41,7 @@ impl<'a> Iterator for QueryParts<'a> {
 
     ghost remaining = { item_count (λ p. p) };
 
+    #[tactic(auto, using(uri::proofs::Pieces::parts_are))]
     fn next(&mut self) -> Option<&'a [u8]> {
         let (part, rest) = cut(b'&', self.rest?);
         self.rest = rest;
