@@ -1,10 +1,9 @@
 // Replacing a URI's host.
-ghost use Rattle.std.specs.Prelude.{◌≡◌};
+ghost use Rattle.std.specs.Prelude.{◌≡◌, ◌∷◌};
 ghost use Rattle.std.specs.Option.{option_map};
 ghost use Rattle.terms.specs.Drafts.{drafted, extended};
 ghost use Rattle.terms.specs.Texts.{content, bounded};
-ghost use Rattle.uri.specs.Cuts.{behind, marked};
-ghost use Rattle.rewriting.specs.Hosts.{schemed, with_host};
+ghost use Rattle.rewriting.specs.Hosts.{schemed, rehosted, with_host};
 ghost use Rattle.rewriting.specs.Laws.{NewHost, HostAlone, HostLegal};
 
 use crate::writing::write_marked;
@@ -23,16 +22,18 @@ fn write_scheme<const N: usize>(draft: &mut Draft<N>, scheme: Option<&[u8]>)
     }
 }
 
-// Writes the host, and the port of the old authority behind it.
+// Writes the authority with its `//`: the host, and behind it the port of the old authority.
 fn write_authority<const N: usize>(draft: &mut Draft<N>, host: &[u8], authority: &[u8])
-    ensures { drafted draft.new ≡ extended N (extended N (drafted draft.old) host.now) (marked 58 (behind 58 authority.now)) }
+    ensures { drafted draft.new ≡ extended N (drafted draft.old) (47 ∷ 47 ∷ rehosted host.now authority.now) }
 {
     let (_, port) = cut(b':', authority);
+    draft.push(b"//");
     draft.push(host);
     write_marked(draft, b':', port);
 }
 
 // The URI with the host, in at most N bytes.
+#[tactic(auto, using(crate::proofs::Written::five_written, crate::proofs::Written::host_written))]
 fn written<const N: usize>(uri: &[u8], host: &[u8]) -> Option<Text<N>>
     ensures { option_map content result ≡ bounded N (with_host host.now uri.now) }
 {
@@ -42,7 +43,6 @@ fn written<const N: usize>(uri: &[u8], host: &[u8]) -> Option<Text<N>>
     };
     let mut draft = Draft::new();
     write_scheme(&mut draft, parts.scheme);
-    draft.push(b"//");
     write_authority(&mut draft, host, authority);
     draft.push(parts.path);
     write_marked(&mut draft, b'?', parts.query);

@@ -4,4 +4,5 @@
 mod change;
 pub mod hosts;
 pub mod parameters;
+mod query_parts;
 mod writing;

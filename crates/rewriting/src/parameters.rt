@@ -1,50 +1,27 @@
 // Setting a parameter of a URI's query.
 ghost use Rattle.std.specs.Prelude.{◌≡◌, ◌∷◌};
 ghost use Rattle.std.specs.Option.{option_map};
-ghost use Rattle.std.specs.Str.{bytes_eq};
 ghost use Rattle.terms.specs.Drafts.{drafted, extended};
 ghost use Rattle.terms.specs.Texts.{content, bounded};
 ghost use Rattle.uri.specs.Cuts.{joined_by};
 ghost use Rattle.rewriting.specs.Laws.{Once, Others, Elsewhere, Again, StaysLegal};
-ghost use Rattle.rewriting.specs.Parameters.{filled, pieces, named, assigned, change_of, set_in, set_to};
+ghost use Rattle.rewriting.specs.Parameters.{pieces, named, assigned, change_of, set_in, set_to};
 
 use crate::change::Change;
+use crate::query_parts::QueryParts;
 use crate::writing::{write_marked, write_part};
 use terms::draft::Draft;
 use terms::text::Text;
-use uri::cutting::cut;
-
-fn same_bytes(left: &[u8], right: &[u8]) -> bool
-    ensures { result ≡ bytes_eq left.now right.now }
-{
-    left == right
-}
-
-// Whether a part of a query has the name.
-fn is_named(part: &[u8], name: &[u8]) -> bool
-    ensures { result ≡ named name.now part.now }
-{
-    let (front, _) = cut(b'=', part);
-    same_bytes(front, name)
-}
+use uri::cutting::{cut, is_named};
 
 // What becomes of a part, by whether the parameter was set before it.
 fn change_of(part: &[u8], name: &[u8], set: bool) -> Change
     ensures { result ≡ change_of (named name.now part.now) set }
 {
-    if !is_named(part, name) {
-        return Change::Kept;
-    }
-    if set { Change::Removed } else { Change::Set }
-}
-
-// A query that is there and not empty.
-fn unless_empty(query: Option<&[u8]>) -> Option<&[u8]>
-    ensures { option_map (λ x. x.now) result ≡ filled (option_map (λ x. x.now) query.entry) }
-{
-    match query {
-        Some([]) => None,
-        _ => query,
+    match (is_named(part, name), set) {
+        (false, _) => Change::Kept,
+        (true, false) => Change::Set,
+        (true, true) => Change::Removed,
     }
 }
 
@@ -57,6 +34,7 @@ fn write_assigned<const N: usize>(draft: &mut Draft<N>, mark: u8, name: &[u8], v
 }
 
 // Writes the new query with its `?`.
+#[tactic(auto, using(crate::proofs::Steps::part_then))]
 fn write_query<const N: usize>(
     draft: &mut Draft<N>,
     query: Option<&[u8]>,
@@ -67,9 +45,7 @@ fn write_query<const N: usize>(
 {
     let mut mark = b'?';
     let mut set = false;
-    let mut rest = unless_empty(query);
-    while let Some(text) = rest {
-        let (part, more) = cut(b'&', text);
+    for part in QueryParts::new(query) {
         match change_of(part, name, set) {
             Change::Kept => {
                 write_part(draft, mark, part);
@@ -82,7 +58,6 @@ fn write_query<const N: usize>(
             }
             Change::Removed => {}
         }
-        rest = more;
     }
     if !set {
         write_assigned(draft, mark, name, value);

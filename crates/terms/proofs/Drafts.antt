@@ -1,9 +1,8 @@
 -- Parts written one behind the other, and the bytes of one part. Assumes nothing.
-use Rattle.std.proofs.Common.{◌≡◌, ℕ, ◌<◌, ◌≤◌, leb, List, [], ◌++◌, length, Some, None, Option, sym, refl, ap, ◌∙◌, ⊎_elim, append_assoc, arith}
+use Rattle.std.proofs.Common.{◌≡◌, ℕ, ◌<◌, ◌≤◌, leb, List, [], ◌++◌, length, take, Some, None, Option, sym, refl, ap, ◌∙◌, ⊎_elim, append_assoc, arith}
 use Rattle.std.proofs.lemmas.List.{append-nil, length-append, length-take}
-use Rattle.std.proofs.lemmas.Bool.{cond-true, cond-false, le-leb, lt-leb, leb-false, cases_Bool}
-use Rattle.std.specs.Option.{option_map}
-use Rattle.terms.specs.Texts.{content, bounded}
+use Rattle.std.proofs.lemmas.Bool.{cond_both, cond-true, cond-false, le-leb, lt-leb, leb-true, leb-false, cases_Bool}
+use Rattle.terms.specs.Texts.{bounded}
 use Rattle.terms.specs.declared.draft.Draft.{Draft}
 use Rattle.terms.specs.Drafts.{drafted, extended}
 
@@ -29,7 +28,7 @@ extended_twice n (Some text) xs ys = extended-bounded n (text ++ xs) ys ∙ ap (
 
 -- nothing more is written
 pub extended_none : {N : ℕ} (d : Draft N) → extended N (drafted d) [] ≡ drafted d
-extended_none {N} d = elim d.text as (λ o. extended N (option_map content o) [] ≡ option_map content o) [
-  | None ↦ refl
-  | Some text ↦ ap (bounded N) (append-nil (content text)) ∙ bounded_fits N (content text) (omega (arith, length-take text.len text.bytes, text.fits))
-]
+extended_none {N} d =
+    let text : List ℕ = take d.len d.bytes in
+    cond_both (leb d.len N) (Some text) None (λ o. extended N o [] ≡ o)
+    (λ e. ap (bounded N) (append-nil text) ∙ bounded_fits N text (omega (arith, leb-true d.len N e, length-take d.len d.bytes))) (λ _. refl)

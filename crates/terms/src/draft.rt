@@ -1,9 +1,13 @@
-// A text that grows, of at most N bytes: what was written so far, or none once it grew too long.
-use crate::text::Text;
+// A text that grows, of at most N bytes, in an array and a length: an `Option` or a `bool` in it, or a `Text<N>`, was tried, and each call at
+// a parameter N would then owe that the draft's size is below 2 ^ 63.
+ghost use Rattle.std.specs.Prelude.{◌≡◌, length};
 
 mod methods;
 
 #[derive(Clone, Copy, Debug)]
 pub struct Draft<const N: usize> {
-    text: Option<Text<N>>,
+    bytes: [u8; N],
+    // How many bytes were to be written, as far as a `usize` counts. Where they are more than N, they are lost.
+    len: usize,
+    ghost room: { length bytes ≡ N },
 }

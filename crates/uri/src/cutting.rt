@@ -1,6 +1,7 @@
 // A text cut at the first of a byte.
 ghost use Rattle.std.specs.Prelude.{◌≡◌, ◌≤◌, length, take, ◌==◌};
 ghost use Rattle.std.specs.Option.{option_map};
+ghost use Rattle.std.specs.Str.{bytes_eq};
 ghost use Rattle.uri.specs.Cuts.{place, before, behind_at, behind};
 
 // How many bytes stand before the first `byte`; where there is none, all of them.
@@ -29,4 +30,12 @@ pub fn cut(byte: u8, text: &[u8]) -> (&[u8], Option<&[u8]>)
     ensures back { option_map (λ x. x.now) result.1 ≡ behind byte text.now }
 {
     cut_at(text, place_of(byte, text))
+}
+
+// Whether the part of a list of `name=value` has the name, which ends before the first `=`, or with the part.
+pub fn is_named(part: &[u8], name: &[u8]) -> bool
+    ensures { result ≡ bytes_eq (before 61 part.now) name.now }
+{
+    let (front, _) = cut(b'=', part);
+    front == name
 }

@@ -13,7 +13,8 @@ impl<const N: usize> Draft<N> {
         ensures { drafted result ≡ Some [] }
     {
         Draft {
-            text: Some(Text::empty()),
+            bytes: [0; N],
+            len: 0,
         }
     }
 
@@ -21,10 +22,11 @@ impl<const N: usize> Draft<N> {
     pub fn push(&mut self, part: &[u8])
         ensures { drafted self.new ≡ extended N (drafted self.old) part.now }
     {
-        if let Some(text) = &mut self.text {
-            if text.append(part).is_none() {
-                self.text = None;
-            }
+        let start = self.len;
+        self.len = start.saturating_add(part.len());
+        if self.len <= N {
+            let all = &mut self.bytes[..];
+            all[start..self.len].copy_from_slice(part);
         }
     }
 
@@ -32,6 +34,6 @@ impl<const N: usize> Draft<N> {
     pub fn finish(&self) -> Option<Text<N>>
         ensures { option_map content result ≡ drafted self.now }
     {
-        self.text
+        Text::front(self.bytes, self.len)
     }
 }

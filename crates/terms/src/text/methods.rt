@@ -1,42 +1,29 @@
 // Making a bounded text, and lending its bytes.
-ghost use Rattle.std.specs.Prelude.{◌≡◌, ◌<◌, ◌≤◌, [], ◌++◌, length};
+ghost use Rattle.std.specs.Prelude.{◌≡◌, ◌<◌, ◌≤◌, cond, length, take, Some, None, nat_le};
 ghost use Rattle.std.specs.Option.{option_map};
 ghost use Rattle.terms.specs.Texts.{content, bounded};
 
 use super::Text;
+use crate::draft::Draft;
 
 impl<const N: usize> Text<N> {
     // The text, or none where it has more than N bytes.
     pub fn new(text: &[u8]) -> Option<Self>
         ensures { option_map content result ≡ bounded N text.now }
     {
-        let mut whole = Text::empty();
-        whole.append(text)?;
-        Some(whole)
+        let mut draft = Draft::new();
+        draft.push(text);
+        draft.finish()
     }
 
-    // The text without a byte.
-    pub(crate) fn empty() -> Self
-        ensures { content result ≡ [] }
+    // The first `len` bytes, or none where there are not so many.
+    pub(crate) fn front(bytes: [u8; N], len: usize) -> Option<Self>
+        ensures { option_map content result ≡ cond (nat_le len N) (Some (take len bytes.entry)) None }
     {
-        Text {
-            bytes: [0; N],
-            len: 0,
-        }
-    }
-
-    // Writes `part` behind the text, or answers none where it has no room.
-    pub(crate) fn append(&mut self, part: &[u8]) -> Option<()>
-        ensures { option_map (λ _. content self.new) result ≡ bounded N (content self.old ++ part.now) }
-    {
-        if part.len() > N - self.len {
+        if len > N {
             return None;
         }
-        let end = self.len + part.len();
-        let all = &mut self.bytes[..];
-        all[self.len..end].copy_from_slice(part);
-        self.len = end;
-        Some(())
+        Some(Text { bytes, len })
     }
 
     pub fn as_bytes(&self) -> &[u8]

@@ -1,15 +1,11 @@
 use Rattle.std.proofs.Common.{◌≡◌}
 use Rattle.std.specs.Option.{option_map}
 use Rattle.terms.specs.Drafts.{drafted, extended}
-use Rattle.uri.specs.Cuts.{further}
 use Rattle.rewriting.specs.Parameters.{pieces, set_in}
-use Rattle.rewriting.proofs.Steps.{set_from, listed, left}
+use Rattle.rewriting.proofs.Steps.{set_from, listed}
 use Rattle.rewriting.proofs.parameters.write_query.Given as goal
 
-abbrev pub invariant-loop-rest : goal.invariant-loop-rest
-invariant-loop-rest g l =
-    extended g.row.N (drafted l.draft) (listed l.mark (set_from l.name l.value l.set (further 38 (option_map (λ x. x.now) l.rest))))
+abbrev pub invariant-loop-part : goal.invariant-loop-part
+invariant-loop-part g l =
+    extended g.row.N (drafted l.draft) (listed l.mark (set_from l.name l.value l.set l.part-iterator))
     ≡ extended g.row.N (drafted l.initial.draft) (listed 63 (set_in l.name l.value (pieces (option_map (λ x. x.now) l.query))))
-
-abbrev pub decreases-loop-rest : goal.decreases-loop-rest
-decreases-loop-rest g l = left (option_map (λ x. x.now) l.rest)
