@@ -22,8 +22,8 @@
 mod decode;
 
 use crate::decode::decode;
-use reports::report::Report;
 use playlist::reading::Playlist;
+use reports::report::Report;
 use std::io;
 use std::io::{BufRead, BufReader, ErrorKind};
 use table::reading::ServiceTable;

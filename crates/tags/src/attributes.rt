@@ -14,7 +14,7 @@ use crate::charset::Charset;
 use crate::field::Field;
 use crate::fields::{fields_from, fields_of};
 use crate::value::Value;
-use uri::cutting::cut;
+use uri::cutting::{cut, is_named};
 
 fn allows(charset: Charset, byte: u8) -> bool
     ensures { result ≡ stands charset byte }
@@ -77,13 +77,6 @@ pub fn is_list(list: &[u8]) -> bool
     ensures grammar { Decides result (AttributeList list.now) }
 {
     keeps_syntax(list)
-}
-
-fn is_named(field: &[u8], name: &[u8]) -> bool
-    ensures { result ≡ bytes_eq (before 61 field.now) name.now }
-{
-    let (own, _) = cut(b'=', field);
-    own == name
 }
 
 // Whether one of the fields from `from` on has the name.
