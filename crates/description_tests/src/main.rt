@@ -77,7 +77,7 @@ fn run(rt: &HostRuntime) -> io::Result<()> {
         let line = line?;
         match case(rt, line.as_slice()) {
             Ok(()) => cases = cases.saturating_add(1),
-            Err(error) if matches!(error.kind(), ErrorKind::InvalidData) => {
+            Err(error) if error.kind() == ErrorKind::InvalidData => {
                 println!(rt; "line {number} unreadable")?;
             }
             Err(error) => return Err(error),

@@ -4,9 +4,7 @@ use pathways::dialect::Dialect;
 use std::fmt;
 use terms::fault::Fault;
 use terms::refusal::Refusal;
-
-// The most bytes of an answer: those of a URI.
-const ANSWER_BYTES: usize = 512;
+use uri::legality::URI_BYTES;
 
 // Up to so many members are listed, more are told by a digest.
 const LISTED: usize = 4;
@@ -32,7 +30,7 @@ fn text(answer: Result<usize, Fault>, buffer: &[u8]) -> &str {
 
 // Whether this is the description of the table `example`.
 fn is_example<D: Description>(description: &D) -> bool {
-    let mut buffer = [0; ANSWER_BYTES];
+    let mut buffer = [0; URI_BYTES];
     description.dialect() == Dialect::Dash
         && text(description.steering(&mut buffer), &buffer) == "https://s.example/a"
         && description.count() == 1
@@ -51,13 +49,13 @@ fn write_description<D: Description, W: fmt::Write>(
     f: &mut fmt::Formatter<W>,
     description: &D,
 ) -> Result<usize, fmt::Error> {
-    let mut buffer = [0; ANSWER_BYTES];
+    let mut buffer = [0; URI_BYTES];
     let dialect = description.dialect();
     let uri = text(description.steering(&mut buffer), &buffer);
     write!(f, "{dialect} {uri}")?;
     let mut all = 0usize;
     for number in 0..description.count() {
-        let mut buffer = [0; ANSWER_BYTES];
+        let mut buffer = [0; URI_BYTES];
         let id = text(description.id(number, &mut buffer), &buffer);
         let count = members(description, number);
         write!(f, " {id}:{count}")?;
@@ -81,7 +79,7 @@ fn write_members<D: Description, W: fmt::Write>(
     let mut sum = 0;
     for number in 0..description.count() {
         for member in 0..members(description, number) {
-            let mut buffer = [0; ANSWER_BYTES];
+            let mut buffer = [0; URI_BYTES];
             let uri = text(description.member(number, member, &mut buffer), &buffer);
             if listed {
                 writeln!(f, "  {uri}")?;
@@ -114,7 +112,7 @@ fn write_wrong<D: Description, W: fmt::Write>(
     f: &mut fmt::Formatter<W>,
     description: &D,
 ) -> fmt::Result {
-    let mut buffer = [0; ANSWER_BYTES];
+    let mut buffer = [0; URI_BYTES];
     let past = description.id(description.count(), &mut buffer);
     if !is_refused(past, Refusal::NoSuchNumber) {
         writeln!(f, "  wrong past the end")?;

@@ -4,9 +4,7 @@ ghost use Rattle.std.specs.Prelude.{◌≡◌, take, IfOk};
 use crate::failure::Failure;
 use pathways::description::Description;
 use pathways::set::Pathways;
-
-// The most bytes of an answer: those of a URI.
-const ANSWER_BYTES: usize = 512;
+use uri::legality::URI_BYTES;
 
 // An answer of that length at the front of the buffer, as text.
 fn text(buffer: &[u8], length: usize) -> Result<&str, Failure>
@@ -22,14 +20,14 @@ fn show_member<P: Pathways>(
     number: usize,
     member: usize,
 ) -> Result<(), Failure> {
-    let mut buffer = [0; ANSWER_BYTES];
+    let mut buffer = [0; URI_BYTES];
     let length = set.member(number, member, &mut buffer)?;
     let uri = text(&buffer, length)?;
     Ok(println!(rt; "member {member} {uri}")?)
 }
 
 fn show_pathway<P: Pathways>(rt: &impl Print, set: &P, number: usize) -> Result<(), Failure> {
-    let mut buffer = [0; ANSWER_BYTES];
+    let mut buffer = [0; URI_BYTES];
     let length = set.id(number, &mut buffer)?;
     let id = text(&buffer, length)?;
     let members = set.members(number)?;
@@ -42,7 +40,7 @@ fn show_pathway<P: Pathways>(rt: &impl Print, set: &P, number: usize) -> Result<
 
 // Dialect and steering URI in one line, and below it each pathway with its members.
 pub(crate) fn show<D: Description>(rt: &impl Print, description: &D) -> Result<(), Failure> {
-    let mut buffer = [0; ANSWER_BYTES];
+    let mut buffer = [0; URI_BYTES];
     let dialect = description.dialect();
     let length = description.steering(&mut buffer)?;
     let uri = text(&buffer, length)?;

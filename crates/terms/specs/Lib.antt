@@ -1,4 +1,5 @@
 pub mod Classes
+pub mod Members
 pub mod Refusals
 pub mod Layers
 pub mod Faults

@@ -1,16 +1,32 @@
 // The classes of a byte, by one table.
 ghost use Rattle.std.specs.Prelude.{◌≡◌, true, length};
-ghost use Rattle.terms.specs.Classes.{obeys, classes, holds, unreserved, sub_delimiter, hex_digit, name_byte};
+ghost use Rattle.terms.specs.Classes.{obeys, classes, unreserved, sub_delimiter, hex_digit, name_byte};
+ghost use Rattle.terms.specs.Members.{class_bit, belongs};
 
-// An entry holds one bit for each class that its byte is in.
-const UNRESERVED: u8 = 1;
+// The four sets of bytes that texts are judged by.
+#[derive(Clone, Copy, Debug, PartialEq, Eq)]
+enum Class {
+    Unreserved,
+    SubDelimiter,
+    HexDigit,
+    NameByte,
+}
 
-const SUB_DELIMITER: u8 = 2;
+impl Class {
+    // The class's bit in an entry of the table.
+    fn bit(self) -> u8
+        ensures { result ≡ class_bit self }
+    {
+        match self {
+            Class::Unreserved => 1,
+            Class::SubDelimiter => 2,
+            Class::HexDigit => 4,
+            Class::NameByte => 8,
+        }
+    }
+}
 
-const HEX_DIGIT: u8 = 4;
-
-const NAME_BYTE: u8 = 8;
-
+// An entry holds the classes of its byte, a bit for each: as structs of four flags they would not read as a table.
 const CLASSES: [u8; 256] = [
     0, 0, 0, 0, 0, 0, 0, 0, 0, 0, 0, 0, 0, 0, 0, 0, 0, 0, 0, 0, 0, 0, 0, 0, 0, 0, 0, 0, 0, 0, 0, 0,
     0, 2, 0, 0, 2, 0, 2, 2, 2, 2, 2, 2, 2, 9, 9, 0, 13, 13, 13, 13, 13, 13, 13, 13, 13, 13, 0, 2,
@@ -31,40 +47,37 @@ fn table() -> &'static [u8; 256]
     &CLASSES
 }
 
-// The classes of a byte: each bit says what the byte's set says.
-fn classes_of(byte: u8) -> u8
-    ensures unreserved { holds result 1 ≡ unreserved byte }
-    ensures sub_delimiter { holds result 2 ≡ sub_delimiter byte }
-    ensures hex_digit { holds result 4 ≡ hex_digit byte }
-    ensures name_byte { holds result 8 ≡ name_byte byte }
+// Whether a byte is of the class: its entry has the class's bit.
+fn is_of(byte: u8, class: Class) -> bool
+    ensures { result ≡ belongs class byte }
 {
-    table()[byte as usize]
+    table()[usize::from(byte)] & class.bit() != 0
 }
 
 // A letter, a digit, `-`, `.`, `_` or `~`.
 pub fn is_unreserved(byte: u8) -> bool
     ensures { result ≡ unreserved byte }
 {
-    classes_of(byte) & UNRESERVED != 0
+    is_of(byte, Class::Unreserved)
 }
 
 // One of `!$&'()*+,;=`.
 pub fn is_sub_delimiter(byte: u8) -> bool
     ensures { result ≡ sub_delimiter byte }
 {
-    classes_of(byte) & SUB_DELIMITER != 0
+    is_of(byte, Class::SubDelimiter)
 }
 
 // A digit or one of A to F, in either case.
 pub fn is_hex_digit(byte: u8) -> bool
     ensures { result ≡ hex_digit byte }
 {
-    classes_of(byte) & HEX_DIGIT != 0
+    is_of(byte, Class::HexDigit)
 }
 
 // A byte of a host or of a pathway ID: a letter, a digit, `.`, `-` or `_`.
 pub fn is_name_byte(byte: u8) -> bool
     ensures { result ≡ name_byte byte }
 {
-    classes_of(byte) & NAME_BYTE != 0
+    is_of(byte, Class::NameByte)
 }

@@ -14,7 +14,7 @@ impl Seconds {
         ensures value { result ≡ milliseconds self }
         ensures bound { result ≤ 4294967295000 }
     {
-        self.0 as u64 * 1000
+        u64::from(self.0) * 1000
     }
 }
 

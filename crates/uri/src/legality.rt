@@ -14,7 +14,7 @@ use terms::classes::{is_hex_digit, is_sub_delimiter, is_unreserved};
 use terms::names::is_name;
 
 // The most bytes that a URI may have.
-const URI_BYTES: usize = 512;
+pub const URI_BYTES: usize = 512;
 
 const HOST_BYTES: usize = 128;
 
