@@ -22,6 +22,6 @@ loop-i-preserved c =
 pub returns : goal.returns
 returns c =
     passed 13 _
-    (some_order (contents c.args.table.now.file.now) (omega (arith, length-contents c.args.table.now.file.now, c.count.ensures.value))
+    (some_order (contents c.args.table.now.file.now) (omega (arith, length-contents c.args.table.now.file.now, c.count.ensures))
     ∙ c.loop-i.invariant.1
     ∙ ap (disordered c.loop-i.before (number c.loop-i.i-iterator)) c.in-None.ensures.steps.0.0)
