@@ -23,7 +23,9 @@ use terms::refusal::Refusal;
 fn check_kinds(table: &Contents) -> Result<(), Fault>
     ensures { done result ≡ verdict 13 (unknown_kind 0 (contents table.now.file.now)) }
 {
-    let offence = table.entries().position(|entry| entry.kind.is_unknown());
+    let offence = table
+        .entries()
+        .position(|entry| entry.kind == Kind::Unknown);
     hold(Refusal::Order, offence.map(spot_of))
 }
 
@@ -113,7 +115,8 @@ impl Tally {
         ensures { result ≡ excess self.ids self.members kind (option_to_list next) }
     {
         match kind {
-            Kind::Id => self.ids >= PATHWAYS || !next.is_some_and(|entry| entry.kind.is_member()),
+            Kind::Id => self.ids >= PATHWAYS
+                || !next.is_some_and(|entry| entry.kind == Kind::Member),
             Kind::Member => self.members >= MEMBERS,
             Kind::Steering | Kind::Unknown => false,
         }
@@ -127,8 +130,12 @@ impl Tally {
         ensures members { result.members ≡ members_now self.members kind }
     {
         Tally {
-            ids: if kind.is_id() { self.ids + 1 } else { self.ids },
-            members: if kind.is_member() {
+            ids: if kind == Kind::Id {
+                self.ids + 1
+            } else {
+                self.ids
+            },
+            members: if kind == Kind::Member {
                 self.members + 1
             } else {
                 0
@@ -141,7 +148,7 @@ impl Tally {
 fn has_pathway(table: &Contents) -> bool
     ensures { result ≡ not (length (pathways_in table.now.file.now (contents table.now.file.now)) == 0) }
 {
-    table.entries().any(|entry| entry.kind.is_id())
+    table.entries().any(|entry| entry.kind == Kind::Id)
 }
 
 // There are 1 to 16 pathways, each with 1 to 32 members.
