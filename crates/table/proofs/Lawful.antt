@@ -219,6 +219,10 @@ module _ (file : List ℕ) where
   steering-whole [] o = let z : ◌≡◌ {A = ℕ} 0 1 = cc in absurd (omega arith)
   steering-whole (e ∷ es) o = no_fragment (body_of file e)
 
+  some_entry : (es : List Entry) → out_of_order es ≡ None → 0 < length es
+  some_entry [] o = let z : ◌≡◌ {A = ℕ} 0 1 = cc in absurd (omega arith)
+  some_entry (e ∷ es) o = omega arith
+
 -- each rule is kept
 rule_kept : (n : ℕ) (o : Option ℕ) (rs : List Rule) → is_ok (and_then (verdict n o) (judged rs)) ≡ true → (o ≡ None) × (is_ok (judged rs) ≡ true)
 rule_kept n None rs e = (refl, e)
@@ -255,6 +259,9 @@ module _ (file : List ℕ) (sound : is_ok (checked file) ≡ true) where
 
   pub sound_fits : spot (count_of file) ≤ length file
   sound_fits = ltb-false (length file) (spot (count_of file)) (none-further (ltb (length file) (spot (count_of file))) 4 None fits_kept).0
+
+  pub sound_some : 0 < length (contents file)
+  sound_some = some_entry file (contents file) order_kept
 
   counted : (eqb (length (pathways_in file (contents file))) 0 ≡ false) × (overrun 0 0 0 (contents file) ≡ None)
   counted = none-further (eqb (length (pathways_in file (contents file))) 0) 4 (overrun 0 0 0 (contents file)) counts_kept

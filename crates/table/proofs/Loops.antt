@@ -1,11 +1,10 @@
 -- The rules, entry by entry, where the loops of the check do not show them by themselves. Assumes nothing.
-use Rattle.std.proofs.Common.{◌≡◌, ℕ, suc, ◌+◌, ◌<◌, ◌≤◌, Bool, true, false, cond, not, ◌||◌, eqb, leb, List, [], ◌∷◌, length, get_or, drop, Some, None, Ok, Option, MatchOption, sym, refl, ap, ◌∙◌, arith}
+use Rattle.std.proofs.Common.{◌≡◌, ℕ, suc, ◌+◌, ◌≤◌, Bool, true, false, cond, not, ◌||◌, eqb, leb, List, [], ◌∷◌, length, get_or, drop, Some, None, Option, MatchOption, sym, refl, ap, ◌∙◌, arith}
 use Rattle.std.specs.Option.{option_to_list}
 use Rattle.std.specs.List.{list_any}
 use Rattle.std.specs.Iterator.Adapters.{enumerate_source, enumerate_count}
 use Rattle.std.specs.declared.iter.Enumerate.{Enumerate}
-use Rattle.std.proofs.lemmas.Bool.{cond-true, cond-false, eq-eqb, ne_eqb, not-true, le-leb, and_from, not_from_true}
-use Rattle.pathways.specs.Rules.{verdict}
+use Rattle.std.proofs.lemmas.Bool.{cond-true, cond-false, eq-eqb, ne_eqb, le-leb, and_from, not_from_true}
 use Rattle.table.specs.declared.kind.Kind.{Kind}
 use Rattle.table.specs.declared.kind.Kind.TheVariants.{Steering, Id, Member, Unknown}
 use Rattle.table.specs.declared.entry.Entry.{Entry}
@@ -13,7 +12,7 @@ use Rattle.table.specs.declared.contents.Entries.{Entries}
 use Rattle.table.specs.Contents.{headed, spot, is_id}
 use Rattle.table.specs.Reading.{pathway_at, pathways_in}
 use Rattle.table.specs.Parts.{entries_left}
-use Rattle.table.specs.Offences.{bad_header, misplaced, end_of, follows, disordered, out_of_order, member_first, excess, ids_now, members_now, overrun, bad_count}
+use Rattle.table.specs.Offences.{bad_header, misplaced, end_of, follows, disordered, member_first, excess, ids_now, members_now, overrun}
 
 pub good_header : (file : List ℕ) → 4 ≤ length file → get_or file 0 0 ≡ 83 → get_or file 1 0 ≡ 84 → get_or file 2 0 ≡ 1 → get_or file 3 0 ≤ 1 → bad_header file ≡ None
 good_header file h s t o d =
@@ -61,11 +60,6 @@ module _ (es rest : List Entry) (e : Entry) (step : es ≡ e ∷ rest) where
       ∙ cond-false (excess ids members e.kind rest) (Some (spot i)) (overrun (ids_now ids e.kind) (members_now members e.kind) (i + 1) rest) h
       ∙ ap (λ (k : ℕ). overrun (ids_now ids e.kind) (members_now members e.kind) k rest) (sym jp)
 
-  pub overrun_here : (ids members i : ℕ) → excess ids members e.kind rest ≡ true → overrun ids members i es ≡ Some (spot i)
-  overrun_here ids members i h =
-      ap (overrun ids members i) step
-      ∙ cond-true (excess ids members e.kind rest) (Some (spot i)) (overrun (ids_now ids e.kind) (members_now members e.kind) (i + 1) rest) h
-
 -- an iterator that goes one entry ahead, and has es left: a call of `next` gives r, and leaves rest
 module _ (es rest here : List Entry) (r : Option Entry) (gave : MatchOption r ((here ≡ []) × (rest ≡ [])) (λ x. here ≡ x ∷ rest)) (is : here ≡ es) where
   pub ahead : rest ≡ drop 1 es
@@ -98,10 +92,6 @@ any_pathway file (e ∷ es) = go (is_id e.kind) (any_pathway file es)
     go true more = sym (ap not (ne_eqb (suc (length (pathways_in file es))) 0 (λ z. omega arith)))
     go false more = more
 
-pub counts_on : (file : List ℕ) (es : List Entry) (some : Bool) → some ≡ true → some ≡ not (eqb (length (pathways_in file es)) 0) → bad_count file es ≡ overrun 0 0 0 es
-counts_on file es some t is =
-    cond-false (eqb (length (pathways_in file es)) 0) (Some 4) (overrun 0 0 0 es) (not-true (eqb (length (pathways_in file es)) 0) (sym is ∙ t))
-
 -- an entry adds at most one to each count
 pub ids_few : (n : ℕ) (k : Kind) → ids_now n k ≤ n + 1
 ids_few n Steering = omega arith
@@ -114,12 +104,3 @@ members_few n Steering = omega arith
 members_few n Id = omega arith
 members_few n Member = omega arith
 members_few n Unknown = omega arith
-
--- where there is an entry, the order is that of all
-pub some_order : (es : List Entry) → 0 < length es → out_of_order es ≡ disordered None 0 es
-some_order [] h = absurd (omega arith)
-some_order (e ∷ es) h = refl
-
--- what the check answers where there is no offence
-pub passed : (n : ℕ) (o : Option ℕ) → o ≡ None → Ok tt ≡ verdict n o
-passed n o h = ap (verdict n) (sym h)

@@ -1,6 +1,6 @@
 // What an entry of the contents stands for.
 ghost use Rattle.std.specs.Prelude.{◌≡◌};
-ghost use Rattle.table.specs.Contents.{kind_of, is_id, is_member, is_unknown};
+ghost use Rattle.table.specs.Contents.{kind_of};
 
 #[derive(Clone, Copy, Debug, PartialEq, Eq)]
 pub enum Kind {
@@ -21,26 +21,5 @@ impl From<u8> for Kind {
             2 => Kind::Member,
             _ => Kind::Unknown,
         }
-    }
-}
-
-// By `matches!` and not by the derived `==`, whose contract says less of the answer.
-impl Kind {
-    pub(crate) fn is_id(self) -> bool
-        ensures { result ≡ is_id self }
-    {
-        matches!(self, Kind::Id)
-    }
-
-    pub(crate) fn is_member(self) -> bool
-        ensures { result ≡ is_member self }
-    {
-        matches!(self, Kind::Member)
-    }
-
-    pub(crate) fn is_unknown(self) -> bool
-        ensures { result ≡ is_unknown self }
-    {
-        matches!(self, Kind::Unknown)
     }
 }

@@ -28,27 +28,25 @@ fn check_header(file: &[u8]) -> Result<&[u8], Fault>
 }
 
 // The count, which stands first behind the header.
-fn check_count(file: &[u8], rest: &[u8]) -> Result<usize, Fault>
+fn check_count(file: &[u8], rest: &[u8]) -> Result<u16, Fault>
     requires long { 4 ≤ length file.now }
     requires rest { rest.now ≡ drop 4 file.now }
     ensures answer { done result ≡ verdict 12 (count_missing file.now) }
     ensures count { IfOk result (λ n. n ≡ count_of file.now) }
-    ensures bound { IfOk result (λ n. n < 65536) }
 {
     let [high, low, ..] = rest else {
         return Err(refuse(Refusal::Structure, file.len()));
     };
-    Ok(usize::from(pair_of(*high, *low)))
+    Ok(pair_of(*high, *low))
 }
 
 // As many entries are there.
-fn check_contents(file: &[u8], count: usize) -> Result<Contents<'_>, Fault>
-    requires count { count ≡ count_of file.now }
-    requires bound { count < 65536 }
+fn check_contents(file: &[u8], count: u16) -> Result<Contents<'_>, Fault>
+    requires { count ≡ count_of file.now }
     ensures answer { done result ≡ verdict 12 (contents_long file.now) }
     ensures same { IfOk result (λ x. x.file.now ≡ file.now) }
 {
-    if file.len() < spot_of(count) {
+    if file.len() < spot_of(usize::from(count)) {
         return Err(refuse(Refusal::Structure, COUNT));
     }
     Ok(Contents { file })
@@ -59,7 +57,7 @@ fn check_places(table: &Contents) -> Result<usize, Fault>
     ensures answer { done result ≡ verdict 12 (misplaced 0 (spot (count_of table.now.file.now)) (contents table.now.file.now)) }
     ensures end { IfOk result (λ n. n ≡ end_of (spot (count_of table.now.file.now)) (contents table.now.file.now)) }
 {
-    let mut due = spot_of(table.count());
+    let mut due = spot_of(usize::from(table.count()));
     for (i, entry) in table.entries().enumerate() {
         if entry.start() != due {
             return Err(refuse(Refusal::Structure, spot_of(i)));

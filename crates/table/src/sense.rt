@@ -19,10 +19,13 @@ use pathways::limits::{MEMBERS, PATHWAYS};
 use terms::fault::Fault;
 use terms::refusal::Refusal;
 
+// No entry is of an unknown kind.
 fn check_kinds(table: &Contents) -> Result<(), Fault>
     ensures { done result ≡ verdict 13 (unknown_kind 0 (contents table.now.file.now)) }
 {
-    let offence = table.entries().position(|entry| entry.kind.is_unknown());
+    let offence = table
+        .entries()
+        .position(|entry| entry.kind == Kind::Unknown);
     hold(Refusal::Order, offence.map(spot_of))
 }
 
@@ -30,14 +33,15 @@ fn check_kinds(table: &Contents) -> Result<(), Fault>
 fn may_follow(before: Option<Kind>, kind: Kind) -> bool
     ensures { result ≡ follows before kind }
 {
-    match (before, kind) {
-        (None, Kind::Steering) => true,
-        (Some(Kind::Steering), Kind::Id) => true,
-        (Some(Kind::Id | Kind::Member), Kind::Id | Kind::Member) => true,
-        _ => false,
-    }
+    matches!(
+        (before, kind),
+        (None, Kind::Steering)
+            | (Some(Kind::Steering), Kind::Id)
+            | (Some(Kind::Id | Kind::Member), Kind::Id | Kind::Member)
+    )
 }
 
+// There are entries, and each may stand behind the one before it.
 fn check_order(table: &Contents) -> Result<(), Fault>
     ensures { done result ≡ verdict 13 (out_of_order (contents table.now.file.now)) }
 {
@@ -54,6 +58,7 @@ fn check_order(table: &Contents) -> Result<(), Fault>
     Ok(())
 }
 
+// Each ID is legal.
 fn check_ids(table: &Bodies) -> Result<(), Fault>
     ensures { done result ≡ verdict 15 (bad_id table.now.contents.file.now (contents table.now.contents.file.now)) }
 {
@@ -75,6 +80,7 @@ fn is_repeat(table: &Bodies, i: usize, part: &Part) -> bool
     part.is_id() && stands_before(table, i, part.body)
 }
 
+// No ID stands twice.
 fn check_repeats(table: &Bodies) -> Result<(), Fault>
     ensures { done result ≡ verdict 15 (repeated table.now.contents.file.now [] (contents table.now.contents.file.now)) }
 {
@@ -88,6 +94,7 @@ fn check_repeats(table: &Bodies) -> Result<(), Fault>
     )
 }
 
+// Each body that is no ID is a legal URI.
 fn check_uris(table: &Bodies) -> Result<(), Fault>
     ensures { done result ≡ verdict 16 (bad_uri table.now.contents.file.now (contents table.now.contents.file.now)) }
 {
@@ -102,34 +109,38 @@ struct Tally {
     members: usize,
 }
 
-// Whether an entry with such a one behind it is one too many, or an ID that no member follows.
-fn is_excess(tally: Tally, kind: Kind, next: Option<Entry>) -> bool
-    ensures { result ≡ excess tally.ids tally.members kind (option_to_list next) }
-{
-    match kind {
-        Kind::Id => tally.ids >= PATHWAYS || !next.is_some_and(|entry| entry.kind.is_member()),
-        Kind::Member => tally.members >= MEMBERS,
-        Kind::Steering | Kind::Unknown => false,
+impl Tally {
+    // Whether an entry with such a one behind it is one too many, or an ID that no member follows.
+    fn is_passed(self, kind: Kind, next: Option<Entry>) -> bool
+        ensures { result ≡ excess self.ids self.members kind (option_to_list next) }
+    {
+        match kind {
+            Kind::Id => self.ids >= PATHWAYS
+                || !next.is_some_and(|entry| entry.kind == Kind::Member),
+            Kind::Member => self.members >= MEMBERS,
+            Kind::Steering | Kind::Unknown => false,
+        }
     }
-}
 
-fn counted(tally: Tally, kind: Kind) -> Tally
-    requires ids { tally.ids < 65536 }
-    requires members { tally.members < 65536 }
-    ensures ids { result.ids ≡ ids_now tally.ids kind }
-    ensures members { result.members ≡ members_now tally.members kind }
-{
-    Tally {
-        ids: if kind.is_id() {
-            tally.ids + 1
-        } else {
-            tally.ids
-        },
-        members: if kind.is_member() {
-            tally.members + 1
-        } else {
-            0
-        },
+    // The tally behind an entry.
+    fn behind(self, kind: Kind) -> Tally
+        requires ids { self.ids < 65536 }
+        requires members { self.members < 65536 }
+        ensures ids { result.ids ≡ ids_now self.ids kind }
+        ensures members { result.members ≡ members_now self.members kind }
+    {
+        Tally {
+            ids: if kind == Kind::Id {
+                self.ids + 1
+            } else {
+                self.ids
+            },
+            members: if kind == Kind::Member {
+                self.members + 1
+            } else {
+                0
+            },
+        }
     }
 }
 
@@ -137,9 +148,10 @@ fn counted(tally: Tally, kind: Kind) -> Tally
 fn has_pathway(table: &Contents) -> bool
     ensures { result ≡ not (length (pathways_in table.now.file.now (contents table.now.file.now)) == 0) }
 {
-    table.entries().any(|entry| entry.kind.is_id())
+    table.entries().any(|entry| entry.kind == Kind::Id)
 }
 
+// There are 1 to 16 pathways, each with 1 to 32 members.
 fn check_counts(table: &Contents) -> Result<(), Fault>
     ensures { done result ≡ verdict 17 (bad_count table.now.file.now (contents table.now.file.now)) }
 {
@@ -148,18 +160,18 @@ fn check_counts(table: &Contents) -> Result<(), Fault>
     }
     let mut tally = Tally { ids: 0, members: 0 };
     // Goes one entry ahead.
-    let mut behind = table.entries();
-    behind.next();
+    let mut ahead = table.entries();
+    ahead.next();
     for (i, entry) in table.entries().enumerate() {
-        let next = behind.next();
-        if is_excess(tally, entry.kind, next) {
+        if tally.is_passed(entry.kind, ahead.next()) {
             return Err(refuse(Refusal::Count, spot_of(i)));
         }
-        tally = counted(tally, entry.kind);
+        tally = tally.behind(entry.kind);
     }
     Ok(())
 }
 
+// The rules of kinds, IDs, URIs and counts.
 pub(crate) fn check_sense(table: &Bodies) -> Result<(), Fault>
     ensures { done result ≡ judged (sense table.now.contents.file.now) }
 {

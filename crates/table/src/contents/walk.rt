@@ -9,7 +9,7 @@ use crate::entry::Entry;
 use crate::kind::Kind;
 
 // Where the contents begin.
-pub(crate) const CONTENTS: usize = 6;
+const CONTENTS: usize = 6;
 
 const ENTRY_BYTES: usize = 5;
 
@@ -50,17 +50,16 @@ impl<'a> Iterator for Entries<'a> {
 
 impl<'a> Contents<'a> {
     // How many entries there are.
-    pub(crate) fn count(&self) -> usize
-        ensures value { result ≡ count_of self.now.file.now }
-        ensures bound { result < 65536 }
+    pub(crate) fn count(&self) -> u16
+        ensures { result ≡ count_of self.now.file.now }
     {
-        usize::from(pair_of(self.file[4], self.file[5]))
+        pair_of(self.file[4], self.file[5])
     }
 
     pub(crate) fn entries(&self) -> Entries<'a>
         ensures { entries_left result ≡ contents self.now.file.now }
     {
-        let end = spot_of(self.count());
+        let end = spot_of(usize::from(self.count()));
         Entries {
             bytes: &self.file[CONTENTS..end],
         }

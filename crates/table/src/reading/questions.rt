@@ -1,5 +1,5 @@
 // What a service table answers.
-ghost use Rattle.std.specs.Prelude.{◌≡◌, ◌<◌};
+ghost use Rattle.std.specs.Prelude.{◌≡◌, ◌<◌, length};
 ghost use Rattle.std.specs.Option.{option_map};
 ghost use Rattle.pathways.specs.Limits.{Lawful, Described};
 ghost use Rattle.pathways.specs.Questions.{numbered};
@@ -30,21 +30,12 @@ fn dialect_by(byte: u8) -> Dialect
     }
 }
 
-// The body of the first entry, up to its fragment.
-fn steering_of<'a>(bodies: &Bodies<'a>) -> &'a [u8]
-    ensures { result.now ≡ steering_in bodies.now.contents.file.now (contents bodies.now.contents.file.now) }
-{
-    match bodies.parts().next() {
-        Some(part) => without_fragment(part.body),
-        None => b"".as_slice(),
-    }
-}
-
 impl<'a> ServiceTable<'a> {
     // The file, with all that follows from its having passed the check.
     fn checked(&self) -> Bodies<'a>
         ensures is { result.contents.file.now ≡ self.now.bodies.contents.file.now }
         ensures lawful { Lawful (table_pathways self.now) }
+        ensures some { 0 < length (contents result.contents.file.now) }
         ensures described { Described (table_meaning self.now) (table_pathways self.now) }
     {
         self.bodies
@@ -89,6 +80,8 @@ impl<'a> Description for ServiceTable<'a> {
     }
 
     fn steering(&self, buffer: &mut [u8]) -> Result<usize, Fault> {
-        copy_out(steering_of(&self.checked()), Layer::Set, buffer)
+        // The first body, up to its fragment. A file that passed the check has one.
+        let first = self.checked().parts().next().unwrap();
+        copy_out(without_fragment(first.body), Layer::Set, buffer)
     }
 }

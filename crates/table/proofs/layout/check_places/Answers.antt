@@ -11,7 +11,7 @@ loop-i-init c =
     let start = begun _ _ _ (contents file) c.into_iter-i-iterator.ensures.into_iter_gives c.enumerate-i-items.ensures.source c.enumerate-i-items.ensures.count c.entries.ensures in
     let first = sym start.0 in
     let es = sym start.1 in
-    let due = sym (c.spot_of-due.ensures ∙ ap spot c.count.ensures.value) in (
+    let due = sym (c.spot_of-due.ensures ∙ ap spot (c.from.ensures ∙ c.count.ensures)) in (
       omega (arith, start.0, ap length start.1, length-contents file),
       (λ j. misplaced (first j) (due j) (es j)),
       (λ j. end_of (due j) (es j)),

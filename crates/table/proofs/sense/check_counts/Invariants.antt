@@ -10,5 +10,5 @@ invariant-loop-i l =
     (number l.i-iterator + length (left l.i-iterator) ≡ count_of l.table.file.now)
     × (l.tally.ids ≤ number l.i-iterator)
     × (l.tally.members ≤ number l.i-iterator)
-    × (entries_left l.behind ≡ drop 1 (left l.i-iterator))
+    × (entries_left l.ahead ≡ drop 1 (left l.i-iterator))
     × (overrun 0 0 0 (contents l.table.file.now) ≡ overrun l.tally.ids l.tally.members (number l.i-iterator) (left l.i-iterator))

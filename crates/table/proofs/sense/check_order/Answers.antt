@@ -2,7 +2,7 @@ use Rattle.std.proofs.Common.{length, None, sym, ap, ◌∙◌, arith}
 use Rattle.table.specs.Contents.{contents}
 use Rattle.table.specs.Offences.{disordered}
 use Rattle.table.proofs.Entries.{length-contents}
-use Rattle.table.proofs.Loops.{number, begun, ordered_on, some_order, passed}
+use Rattle.table.proofs.Loops.{begun, ordered_on}
 use Rattle.table.proofs.sense.check_order.Goals as goal
 
 pub loop-i-init : goal.loop-i-init
@@ -18,10 +18,3 @@ loop-i-preserved c =
     let step = c.in-Some.ensures.steps in
     let here = c.loop-i.invariant in
     (omega (arith, here.0, ap length step.0, step.2), here.1 ∙ ordered_on _ _ c.in-Some.entry step.0 _ _ _ step.2 (sym c.if-not-may_follow.ensures))
-
-pub returns : goal.returns
-returns c =
-    passed 13 _
-    (some_order (contents c.args.table.now.file.now) (omega (arith, length-contents c.args.table.now.file.now, c.count.ensures.value))
-    ∙ c.loop-i.invariant.1
-    ∙ ap (disordered c.loop-i.before (number c.loop-i.i-iterator)) c.in-None.ensures.steps.0.0)

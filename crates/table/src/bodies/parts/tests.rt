@@ -6,6 +6,7 @@ ghost use Rattle.pathways.specs.Limits.{legal_id};
 ghost use Rattle.table.specs.Contents.{is_id, is_member};
 
 use super::Part;
+use crate::kind::Kind;
 use pathways::ids::is_legal_id;
 use uri::legality::is_legal;
 
@@ -13,13 +14,13 @@ impl<'a> Part<'a> {
     pub(crate) fn is_id(&self) -> bool
         ensures { result ≡ is_id self.now.entry.kind }
     {
-        self.entry.kind.is_id()
+        self.entry.kind == Kind::Id
     }
 
     pub(crate) fn is_member(&self) -> bool
         ensures { result ≡ is_member self.now.entry.kind }
     {
-        self.entry.kind.is_member()
+        self.entry.kind == Kind::Member
     }
 
     pub(crate) fn is_bad_id(&self) -> bool
