@@ -11,6 +11,7 @@ use uri::cutting::place_of;
 
 // Ends a path so far, which has `written` bytes, behind a dot segment that goes up to `to`: a `/` stays where that was the last one.
 // Answers the new length.
+#[tactic(auto, using(crate::proofs::Walks::ending_first))]
 fn end_at(path: &mut [u8], written: usize, to: usize) -> usize
     requires room { written < to }
     requires within { to ≤ length path.old }
@@ -28,6 +29,7 @@ fn end_at(path: &mut [u8], written: usize, to: usize) -> usize
 
 // Moves the segment that stands, with its `/`, from `read` to `to`, behind the path so far, which has `written` bytes; a dot segment
 // is not moved. Answers the new length of the path so far.
+#[tactic(auto, using(crate::proofs::Walks::plain_moved, crate::proofs::Walks::plain_rest))]
 fn move_segment(path: &mut [u8], written: usize, read: usize, to: usize) -> usize
     requires behind { written ≤ read }
     requires some { read < to }
