@@ -18,7 +18,6 @@ fn end_at(path: &mut [u8], written: usize, to: usize) -> usize
     ensures value { take result path.new ≡ ending (take written path.old) (ahead (drop to path.old)) }
     ensures rest { drop to path.new ≡ drop to path.old }
     ensures bound { result ≤ to }
-    ensures len { length path.new ≡ length path.old }
 {
     if to < path.len() {
         return written;
@@ -38,7 +37,6 @@ fn move_segment(path: &mut [u8], written: usize, read: usize, to: usize) -> usiz
     ensures value { take result path.new ≡ moved (segment_of (take (to - (read + 1)) (drop (read + 1) path.old))) (take written path.old) (take (to - (read + 1)) (drop (read + 1) path.old)) (ahead (drop to path.old)) }
     ensures rest { drop to path.new ≡ drop to path.old }
     ensures bound { result ≤ to }
-    ensures len { length path.new ≡ length path.old }
 {
     match segment_of(&path[read + 1..to]) {
         Segment::Here => end_at(path, written, to),
@@ -58,7 +56,6 @@ pub(crate) fn remove_dot_segments(path: &mut [u8]) -> usize
     requires { Absolute path.old }
     ensures value { take result path.new ≡ without_dots path.old }
     ensures bound { result ≤ length path.old }
-    ensures len { length path.new ≡ length path.old }
 {
     let mut written = 0;
     let mut read = 0;

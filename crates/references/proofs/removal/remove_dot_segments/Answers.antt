@@ -14,5 +14,5 @@ loop-read-preserved c =
       rooted = subst Absolute (sym c.move_segment-written.ensures.rest) (tail_absolute text read p c.loop-read-test.true c.place_of.ensures.value);
       behind = c.move_segment-written.ensures.bound;
       within = omega (arith, segment_within text read p c.loop-read-test.true c.place_of.ensures.value c.place_of.ensures.within);
-      len = c.move_segment-written.ensures.len ∙ c.loop-read.invariant.len;
+      len = c.move_segment-written.auto.path ∙ c.loop-read.invariant.len;
     }
