@@ -138,8 +138,8 @@ abbrev pub Rooted : Split → Type 0
 Rooted p = is_there p.authority ≡ true → Absolute p.path
 
 path_rooted : (t : Bool) (rest : List ℕ) → is_there (cond t (Some (before 47 (drop 2 rest))) None) ≡ true → Absolute (cond t (drop (place 47 (drop 2 rest)) (drop 2 rest)) rest)
-path_rooted true rest e = subst Absolute (sym (from_is 47 (drop 2 rest))) (absolute_marked (behind 47 (drop 2 rest)))
-path_rooted false rest e = absurd (false≢true e)
+path_rooted true xs e = subst Absolute (sym (from_is 47 (drop 2 xs))) (absolute_marked (behind 47 (drop 2 xs)))
+path_rooted false xs e = absurd (false≢true e)
 
 pub split_rooted : (text : List ℕ) → Rooted (split text)
 split_rooted text = path_rooted (slashes (behind_scheme (without_query text))) (behind_scheme (without_query text))

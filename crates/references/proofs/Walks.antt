@@ -49,8 +49,8 @@ last_is text (Some n) last =
 
 -- behind a dot segment that ends at `to`
 module _ (text out : List ℕ) (to : ℕ) where
-  pub ending-before : to < length text → out ≡ ending out (ahead (drop to text))
-  ending-before h =
+  pub ending_first : to < length text → out ≡ ending out (ahead (drop to text))
+  ending_first h =
       sym (at_drop_more (λ (rest : List ℕ). ending out (ahead rest)) text to 0 h
       ∙ ap (ending out) (parts_are 47 (drop (to + 1) text)))
 
@@ -109,8 +109,8 @@ module _ (text : List ℕ) (read p : ℕ) (h : read < length text) (is : p ≡ p
   tail_is : drop (read + 1 + p) text ≡ marked 47 (behind 47 rest)
   tail_is = sym (drop-drop p (read + 1) text) ∙ ap (λ (n : ℕ). drop n rest) place_is ∙ from_is 47 rest
 
-  pub segment-within : p ≤ length (take (length text - (read + 1)) (drop (read + 1) text)) → read + 1 + p ≤ length text
-  segment-within k = omega (arith, length-take (length text - (read + 1)) rest, length-drop (read + 1) text)
+  pub segment_within : p ≤ length (take (length text - (read + 1)) (drop (read + 1) text)) → read + 1 + p ≤ length text
+  segment_within k = omega (arith, length-take (length text - (read + 1)) rest, length-drop (read + 1) text)
 
   pub tail_absolute : Absolute (drop (read + 1 + p) text)
   tail_absolute = subst Absolute (sym tail_is) (absolute_marked (behind 47 rest))

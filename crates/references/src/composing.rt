@@ -77,6 +77,7 @@ impl Composition {
     }
 
     // Removes the dot segments of the path that begins at `from` and ends the text.
+    #[tactic(auto, using(crate::proofs::Writes::removed, std::proofs::lemmas::Slice::between_is))]
     fn remove_dots(&mut self, from: usize)
         requires inside { from ≤ length self.old }
         requires rooted { Absolute (drop from self.old) }

@@ -11,13 +11,13 @@ use uri::cutting::place_of;
 
 // Ends a path so far, which has `written` bytes, behind a dot segment that goes up to `to`: a `/` stays where that was the last one.
 // Answers the new length.
+#[tactic(auto, using(crate::proofs::Walks::ending_first))]
 fn end_at(path: &mut [u8], written: usize, to: usize) -> usize
     requires room { written < to }
     requires within { to ≤ length path.old }
     ensures value { take result path.new ≡ ending (take written path.old) (ahead (drop to path.old)) }
     ensures rest { drop to path.new ≡ drop to path.old }
     ensures bound { result ≤ to }
-    ensures len { length path.new ≡ length path.old }
 {
     if to < path.len() {
         return written;
@@ -28,6 +28,7 @@ fn end_at(path: &mut [u8], written: usize, to: usize) -> usize
 
 // Moves the segment that stands, with its `/`, from `read` to `to`, behind the path so far, which has `written` bytes; a dot segment
 // is not moved. Answers the new length of the path so far.
+#[tactic(auto, using(crate::proofs::Walks::plain_moved, crate::proofs::Walks::plain_rest))]
 fn move_segment(path: &mut [u8], written: usize, read: usize, to: usize) -> usize
     requires behind { written ≤ read }
     requires some { read < to }
@@ -36,7 +37,6 @@ fn move_segment(path: &mut [u8], written: usize, read: usize, to: usize) -> usiz
     ensures value { take result path.new ≡ moved (segment_of (take (to - (read + 1)) (drop (read + 1) path.old))) (take written path.old) (take (to - (read + 1)) (drop (read + 1) path.old)) (ahead (drop to path.old)) }
     ensures rest { drop to path.new ≡ drop to path.old }
     ensures bound { result ≤ to }
-    ensures len { length path.new ≡ length path.old }
 {
     match segment_of(&path[read + 1..to]) {
         Segment::Here => end_at(path, written, to),
@@ -56,7 +56,6 @@ pub(crate) fn remove_dot_segments(path: &mut [u8]) -> usize
     requires { Absolute path.old }
     ensures value { take result path.new ≡ without_dots path.old }
     ensures bound { result ≤ length path.old }
-    ensures len { length path.new ≡ length path.old }
 {
     let mut written = 0;
     let mut read = 0;

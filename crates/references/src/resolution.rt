@@ -44,6 +44,7 @@ fn legal_text(text: &[u8]) -> Option<Text<512>>
     Text::new(text)
 }
 
+#[tactic(auto, using(crate::proofs::Outcome::answered, crate::proofs::Outcome::there_found))]
 fn stands_for<'a>(base: &'a [u8], reference: &'a [u8]) -> Option<Text<512>>
     ensures { option_map content result ≡ resolved base.now reference.now }
 {

@@ -1,6 +1,6 @@
 use Rattle.std.proofs.Common.{take, sym, ◌∙◌, subst, arith}
 use Rattle.references.specs.Paths.{without_dots, Absolute}
-use Rattle.references.proofs.Walks.{segment-within, tail_absolute, walked_on}
+use Rattle.references.proofs.Walks.{segment_within, tail_absolute, walked_on}
 use Rattle.references.proofs.removal.remove_dot_segments.Goals as goal
 
 pub loop-read-preserved : goal.loop-read-preserved
@@ -13,6 +13,6 @@ loop-read-preserved c =
           c.loop-read.invariant.walked c.move_segment-written.ensures.value c.move_segment-written.ensures.rest;
       rooted = subst Absolute (sym c.move_segment-written.ensures.rest) (tail_absolute text read p c.loop-read-test.true c.place_of.ensures.value);
       behind = c.move_segment-written.ensures.bound;
-      within = omega (arith, segment-within text read p c.loop-read-test.true c.place_of.ensures.value c.place_of.ensures.within);
-      len = c.move_segment-written.ensures.len ∙ c.loop-read.invariant.len;
+      within = omega (arith, segment_within text read p c.loop-read-test.true c.place_of.ensures.value c.place_of.ensures.within);
+      len = c.move_segment-written.auto.path ∙ c.loop-read.invariant.len;
     }
