@@ -3,8 +3,7 @@ ghost use Rattle.std.specs.Prelude.{◌≡◌, ◌<◌, length};
 ghost use Rattle.std.specs.Option.{option_map};
 ghost use Rattle.pathways.specs.Limits.{Lawful, Described};
 ghost use Rattle.pathways.specs.Questions.{numbered};
-ghost use Rattle.table.specs.Contents.{dialect_by, count_of, contents};
-ghost use Rattle.table.specs.Reading.{steering_in, pathways_in, meaning_of};
+ghost use Rattle.table.specs.Contents.{dialect_by, contents};
 ghost use Rattle.table.specs.Tables.{table_pathways, table_meaning};
 ghost use Rattle.table.specs.Walks.{pathway_of};
 

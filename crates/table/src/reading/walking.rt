@@ -1,5 +1,5 @@
 // Walking the parts of a checked file from pathway to pathway.
-ghost use Rattle.std.specs.Prelude.{◌≡◌, MatchOption, length, slice_get};
+ghost use Rattle.std.specs.Prelude.{◌≡◌, length, slice_get};
 ghost use Rattle.std.specs.Iterator.{YieldsFirstBy, item_count};
 ghost use Rattle.std.specs.Option.{option_map};
 ghost use Rattle.table.specs.Contents.{contents};
