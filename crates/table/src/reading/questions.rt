@@ -40,6 +40,7 @@ impl<'a> ServiceTable<'a> {
         self.bodies
     }
 
+    // The pathway of a number, where there is one.
     fn pathway(&self, number: usize) -> Option<Group<'a>>
         ensures { option_map pathway_of result ≡ numbered (table_pathways self.now) number }
     {
