@@ -1,9 +1,9 @@
 -- The check of a service table: its rules in their order, each over the whole file. Assumes nothing.
 use Rattle.std.specs.Prelude.{ℕ, List, [], ◌∷◌, ◌++◌, length, Result}
 use Rattle.terms.specs.Faults.{Told}
-use Rattle.pathways.specs.Rules.{Rule, bad_length, judged}
+pub use Rattle.pathways.specs.Rules.{Rule, verdict, done, and_then, judged}
 use Rattle.table.specs.Contents.{count_of, spot, contents}
-use Rattle.table.specs.Offences.{bad_header, count_missing, contents_long, misplaced, overlong, left_over, unknown_kind, out_of_order, bad_id, repeated, bad_uri, bad_count}
+use Rattle.table.specs.Offences.{bad_length, bad_header, count_missing, contents_long, misplaced, overlong, left_over, unknown_kind, out_of_order, bad_id, repeated, bad_uri, bad_count}
 
 -- length, header, and how contents and bodies lie in the file
 abbrev pub layout : List ℕ → List Rule

@@ -4,7 +4,7 @@ use Rattle.std.specs.Prelude.{ℕ, ◌+◌, Bool, true, false, cond, not, ◌&&�
 use Rattle.std.specs.Str.{bytes_eq}
 use Rattle.uri.specs.Legal.{legal}
 use Rattle.pathways.specs.Limits.{legal_id}
-use Rattle.pathways.specs.Rules.{placed}
+pub use Rattle.pathways.specs.Rules.{placed, bad_length}
 use Rattle.table.specs.declared.kind.Kind.{Kind}
 use Rattle.table.specs.declared.kind.Kind.TheVariants.{Steering, Id, Member, Unknown}
 use Rattle.table.specs.declared.entry.Entry.{Entry}

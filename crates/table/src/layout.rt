@@ -85,6 +85,7 @@ fn check_lengths(table: Contents<'_>) -> Result<Bodies<'_>, Fault>
     Ok(Bodies { contents: table })
 }
 
+// No byte stands behind the last body.
 fn check_end(file: &[u8], end: usize) -> Result<(), Fault>
     ensures { done result ≡ verdict 12 (placed (nat_lt end (length file.now)) 4) }
 {

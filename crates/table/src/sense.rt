@@ -129,17 +129,16 @@ impl Tally {
         ensures ids { result.ids ≡ ids_now self.ids kind }
         ensures members { result.members ≡ members_now self.members kind }
     {
-        Tally {
-            ids: if kind == Kind::Id {
-                self.ids + 1
-            } else {
-                self.ids
+        match kind {
+            Kind::Id => Tally {
+                ids: self.ids + 1,
+                members: 0,
             },
-            members: if kind == Kind::Member {
-                self.members + 1
-            } else {
-                0
+            Kind::Member => Tally {
+                members: self.members + 1,
+                ..self
             },
+            Kind::Steering | Kind::Unknown => Tally { members: 0, ..self },
         }
     }
 }

@@ -7,7 +7,7 @@ ghost use Rattle.table.specs.Contents.{entries_in};
 use crate::contents::Entries;
 use crate::entry::Entry;
 
-mod tests;
+mod rules;
 mod walk;
 
 // An entry, and the body that it names.

@@ -56,6 +56,7 @@ impl<'a> Contents<'a> {
         pair_of(self.file[4], self.file[5])
     }
 
+    // All entries, in order.
     pub(crate) fn entries(&self) -> Entries<'a>
         ensures { entries_left result ≡ contents self.now.file.now }
     {

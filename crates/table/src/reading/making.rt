@@ -19,6 +19,7 @@ fn example_file() -> &'static [u8]
     &EXAMPLE
 }
 
+// The example: that contents and bodies lie in it is computed.
 fn example_bodies() -> Bodies<'static>
     ensures { result.contents.file.now ≡ example }
 {

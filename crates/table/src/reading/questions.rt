@@ -3,8 +3,7 @@ ghost use Rattle.std.specs.Prelude.{◌≡◌, ◌<◌, length};
 ghost use Rattle.std.specs.Option.{option_map};
 ghost use Rattle.pathways.specs.Limits.{Lawful, Described};
 ghost use Rattle.pathways.specs.Questions.{numbered};
-ghost use Rattle.table.specs.Contents.{dialect_by, count_of, contents};
-ghost use Rattle.table.specs.Reading.{steering_in, pathways_in, meaning_of};
+ghost use Rattle.table.specs.Contents.{dialect_by, contents};
 ghost use Rattle.table.specs.Tables.{table_pathways, table_meaning};
 ghost use Rattle.table.specs.Walks.{pathway_of};
 
@@ -41,6 +40,7 @@ impl<'a> ServiceTable<'a> {
         self.bodies
     }
 
+    // The pathway of a number, where there is one.
     fn pathway(&self, number: usize) -> Option<Group<'a>>
         ensures { option_map pathway_of result ≡ numbered (table_pathways self.now) number }
     {

@@ -1,5 +1,5 @@
 // Walking the parts of a checked file from pathway to pathway.
-ghost use Rattle.std.specs.Prelude.{◌≡◌, MatchOption, length, slice_get};
+ghost use Rattle.std.specs.Prelude.{◌≡◌, length, slice_get};
 ghost use Rattle.std.specs.Iterator.{YieldsFirstBy, item_count};
 ghost use Rattle.std.specs.Option.{option_map};
 ghost use Rattle.table.specs.Contents.{contents};
@@ -17,13 +17,14 @@ pub(crate) struct Group<'a> {
 }
 
 impl<'a> Group<'a> {
+    // How many members it has.
     pub(crate) fn count_members(self) -> usize
         ensures { result ≡ length (pathway_of self.entry).members }
     {
         self.behind.take_while(|part| part.is_member()).count()
     }
 
-    // The URI of a member.
+    // The URI of a member, where it is there.
     pub(crate) fn member(self, number: usize) -> Option<&'a [u8]>
         ensures { option_map (λ x. x.now) result ≡ slice_get (pathway_of self.entry).members number }
     {
@@ -54,6 +55,7 @@ impl<'a> Iterator for Groups<'a> {
     }
 }
 
+// All pathways, in order.
 pub(crate) fn pathways<'a>(bodies: &Bodies<'a>) -> Groups<'a>
     ensures { pathways_left result ≡ pathways_in bodies.now.contents.file.now (contents bodies.now.contents.file.now) }
 {

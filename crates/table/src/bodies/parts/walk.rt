@@ -24,6 +24,7 @@ impl<'a> Iterator for Parts<'a> {
 }
 
 impl<'a> Bodies<'a> {
+    // All parts, in order.
     pub(crate) fn parts(&self) -> Parts<'a>
         ensures { parts_left result ≡ with_bodies self.now.contents.file.now (contents self.now.contents.file.now) }
     {
