@@ -74,13 +74,13 @@ given (Loop.move_first {x} {s} {rest} {out} f n b l) e =
 module _ (s : List ℕ) where
   here-text : (t u : Bool) → bytes_eq s (codes ".") ≡ t → cond t Here (cond u Above Plain) ≡ Here → s ≡ codes "."
   here-text true u e f = (bytes_eq-Decides s (codes ".")).0 e
-  here-text false true e f = let z : ◌≡◌ {A = ℕ} 0 1 = cc in absurd (omega arith)
-  here-text false false e f = let z : ◌≡◌ {A = ℕ} 0 1 = cc in absurd (omega arith)
+  here-text false true e f = cc
+  here-text false false e f = cc
 
   above-text : (t u : Bool) → bytes_eq s (codes "..") ≡ u → cond t Here (cond u Above Plain) ≡ Above → s ≡ codes ".."
-  above-text true u e f = let z : ◌≡◌ {A = ℕ} 0 1 = cc in absurd (omega arith)
+  above-text true u e f = cc
   above-text false true e f = (bytes_eq-Decides s (codes "..")).0 e
-  above-text false false e f = let z : ◌≡◌ {A = ℕ} 0 1 = cc in absurd (omega arith)
+  above-text false false e f = cc
 
   here_is : segment_of s ≡ Here → s ≡ codes "."
   here_is = here-text (bytes_eq s (codes ".")) (bytes_eq s (codes "..")) refl

@@ -43,14 +43,14 @@ walked_walk [] h w = w
 walked_walk (s ∷ ss) h w = walked_walk ss h.1 (moved_walk s ss (segment_of s) refl h.0 w)
 
 -- the parts of a text that is cut at each b hold no b
-onto_free : (b x : ℕ) (t : Bool) → eqb x b ≡ t → (ps : List (List ℕ)) → AllByRecursion (Free b) ps → AllByRecursion (Free b) (onto x t ps)
+onto_free : (b x : ℕ) (t : Bool) → (t ≡ false → eqb x b ≡ false) → (ps : List (List ℕ)) → AllByRecursion (Free b) ps → AllByRecursion (Free b) (onto x t ps)
 onto_free b x true e ps h = (Free.none, h)
-onto_free b x false e [] h = (Free.more e Free.none, tt)
-onto_free b x false e (p ∷ ps) h = (Free.more e h.0, h.1)
+onto_free b x false e [] h = (Free.more (e refl) Free.none, tt)
+onto_free b x false e (p ∷ ps) h = (Free.more (e refl) h.0, h.1)
 
 pub parts_free : (b : ℕ) (text : List ℕ) → AllByRecursion (Free b) (parts b text)
 parts_free b [] = (Free.none, tt)
-parts_free b (x ∷ xs) = onto_free b x (eqb x b) refl (parts b xs) (parts_free b xs)
+parts_free b (x ∷ xs) = onto_free b x (eqb x b) (λ e. e) (parts b xs) (parts_free b xs)
 
 pub ahead_free : (text : List ℕ) → AllByRecursion (Free 47) (ahead text)
 ahead_free [] = tt
@@ -138,14 +138,9 @@ module _ (b : ℕ) (off : eqb 47 b ≡ false) where
   free_drop (suc n) Free.none = Free.none
   free_drop (suc n) (Free.more e f) = free_drop n f
 
-  onto_keeps : (x : ℕ) (t : Bool) → eqb x b ≡ false → (ps : List (List ℕ)) → AllByRecursion (Free b) ps → AllByRecursion (Free b) (onto x t ps)
-  onto_keeps x true e ps h = (Free.none, h)
-  onto_keeps x false e [] h = (Free.more e Free.none, tt)
-  onto_keeps x false e (p ∷ ps) h = (Free.more e h.0, h.1)
-
   parts_keep : {text : List ℕ} → Free b text → AllByRecursion (Free b) (parts 47 text)
   parts_keep Free.none = (Free.none, tt)
-  parts_keep (Free.more {x} {xs} e f) = onto_keeps x (eqb x 47) e (parts 47 xs) (parts_keep f)
+  parts_keep (Free.more {x} {xs} e f) = onto_free b x (eqb x 47) (λ _. e) (parts 47 xs) (parts_keep f)
 
   ahead_keeps : {text : List ℕ} → Free b text → AllByRecursion (Free b) (ahead text)
   ahead_keeps Free.none = tt

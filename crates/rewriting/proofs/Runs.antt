@@ -1,6 +1,7 @@
 -- Queries of legal bytes and escapes, where a parameter is set. Assumes nothing.
 use Rattle.std.proofs.Common.{◌≡◌, ℕ, ◌≤◌, Bool, true, false, ◌&&◌, ◌||◌, eqb, leb, List, [], ◌∷◌, ◌++◌, length, Some, None, Option, sym, refl, ap, ◌∙◌, subst}
 use Rattle.std.proofs.lemmas.Bool.{le-leb, and_from, and_parts, or_left}
+use Rattle.std.specs.List.{AllByRecursion}
 use Rattle.terms.specs.Classes.{unreserved, sub_delimiter, hex_digit}
 use Rattle.uri.specs.Cuts.{onto, parts, led, joined_by}
 use Rattle.uri.specs.Splits.{without_query, query, fragment, scheme, behind_scheme, authority, path, split}
@@ -9,8 +10,8 @@ use Rattle.uri.specs.Grammar.{Run}
 use Rattle.uri.specs.Grammar.Run.{end, byte, escape}
 use Rattle.uri.proofs.Free.{Free, free_join}
 use Rattle.uri.proofs.Runs.{apart, escaped_from_run, run_from_escaped, run_free}
-use Rattle.rewriting.specs.Parameters.{pieces, assigned, set_to}
-use Rattle.rewriting.proofs.Queries.{All, Clear, set_all, new, front_is, query_is, fragment_is}
+use Rattle.rewriting.specs.Parameters.{pieces, assigned, set_in, set_to}
+use Rattle.rewriting.proofs.Queries.{Clear, set_all, new, front_is, query_is, fragment_is}
 
 run_append : {allowed : ℕ → Bool} {xs ys : List ℕ} → Run allowed xs → Run allowed ys → Run allowed (xs ++ ys)
 run_append end s = s
@@ -28,35 +29,35 @@ run_assigned : {name value : List ℕ} → Run unreserved name → Run unreserve
 run_assigned r s = run_append (run_query r) (byte refl (run_query s))
 
 -- the parts of a run are runs
-onto_run : (b : ℕ) (t : Bool) (ps : List (List ℕ)) → query_byte b ≡ true → All (Run query_byte) ps → All (Run query_byte) (onto b t ps)
-onto_run b true ps e hs = All.more end hs
-onto_run b false [] e hs = All.more (byte e end) All.none
-onto_run b false (p ∷ ps) e (All.more h hs) = All.more (byte e h) hs
+onto_run : (b : ℕ) (t : Bool) (ps : List (List ℕ)) → query_byte b ≡ true → AllByRecursion (Run query_byte) ps → AllByRecursion (Run query_byte) (onto b t ps)
+onto_run b true ps e hs = (end, hs)
+onto_run b false [] e hs = (byte e end, tt)
+onto_run b false (p ∷ ps) e hs = (byte e hs.0, hs.1)
 
-onto-escape : (h l : ℕ) (ps : List (List ℕ)) → hex_digit h ≡ true → hex_digit l ≡ true → All (Run query_byte) ps → All (Run query_byte) (onto 37 false (onto h false (onto l false ps)))
-onto-escape h l [] e f hs = All.more (escape e f end) All.none
-onto-escape h l (p ∷ ps) e f (All.more r hs) = All.more (escape e f r) hs
+onto-escape : (h l : ℕ) (ps : List (List ℕ)) → hex_digit h ≡ true → hex_digit l ≡ true → AllByRecursion (Run query_byte) ps → AllByRecursion (Run query_byte) (onto 37 false (onto h false (onto l false ps)))
+onto-escape h l [] e f hs = (escape e f end, tt)
+onto-escape h l (p ∷ ps) e f hs = (escape e f hs.0, hs.1)
 
-parts_run : {text : List ℕ} → Run query_byte text → All (Run query_byte) (parts 38 text)
-parts_run end = All.more end All.none
+parts_run : {text : List ℕ} → Run query_byte text → AllByRecursion (Run query_byte) (parts 38 text)
+parts_run end = (end, tt)
 parts_run (byte {b} {bs} e r) = onto_run b (eqb b 38) (parts 38 bs) e (parts_run r)
 parts_run (escape {h} {l} {bs} e f r) =
-    subst (λ (t : Bool). All (Run query_byte) (onto 37 false (onto h t (onto l (eqb l 38) (parts 38 bs))))) (sym (apart hex_digit h 38 e refl))
-    (subst (λ (t : Bool). All (Run query_byte) (onto 37 false (onto h false (onto l t (parts 38 bs))))) (sym (apart hex_digit l 38 f refl))
+    subst (λ (t : Bool). AllByRecursion (Run query_byte) (onto 37 false (onto h t (onto l (eqb l 38) (parts 38 bs))))) (sym (apart hex_digit h 38 e refl))
+    (subst (λ (t : Bool). AllByRecursion (Run query_byte) (onto 37 false (onto h false (onto l t (parts 38 bs))))) (sym (apart hex_digit l 38 f refl))
     (onto-escape h l (parts 38 bs) e f (parts_run r)))
 
-pieces_run : (asked : Option (List ℕ)) → if_present is_query asked ≡ true → All (Run query_byte) (pieces asked)
-pieces_run None e = All.none
-pieces_run (Some []) e = All.none
+pieces_run : (asked : Option (List ℕ)) → if_present is_query asked ≡ true → AllByRecursion (Run query_byte) (pieces asked)
+pieces_run None e = tt
+pieces_run (Some []) e = tt
 pieces_run (Some (x ∷ xs)) e = parts_run (run_from_escaped query_byte (x ∷ xs) e)
 
-led_run : {ps : List (List ℕ)} → All (Run query_byte) ps → Run query_byte (led 38 ps)
-led_run All.none = end
-led_run (All.more r rs) = byte refl (run_append r (led_run rs))
+led_run : (ps : List (List ℕ)) → AllByRecursion (Run query_byte) ps → Run query_byte (led 38 ps)
+led_run [] h = end
+led_run (p ∷ ps) h = byte refl (run_append h.0 (led_run ps h.1))
 
-joined_run : {ps : List (List ℕ)} → All (Run query_byte) ps → Run query_byte (joined_by 38 ps)
-joined_run All.none = end
-joined_run (All.more r rs) = run_append r (led_run rs)
+joined_run : (ps : List (List ℕ)) → AllByRecursion (Run query_byte) ps → Run query_byte (joined_by 38 ps)
+joined_run [] h = end
+joined_run (p ∷ ps) h = run_append h.0 (led_run ps h.1)
 
 -- a name and a value of unreserved bytes and escapes
 module _ (name value : List ℕ) (name-run : Run unreserved name) (value-run : Run unreserved value) where
@@ -79,7 +80,7 @@ module _ (name value : List ℕ) (name-run : Run unreserved name) (value-run : R
         let (heads, rest) = and_parts _ _ (and_parts (leb (length text) 512) (legal_parts (split text)) good).1 in
         let (way, marks) = and_parts (is_path (path (behind_scheme (without_query text)))) _ rest in
         let (asked, tail) = and_parts (if_present is_query (query text)) (if_present is_query (fragment text)) marks in
-        let fine : is_query (new name value text clear) ≡ true = escaped_from_run query_byte refl (joined_run (set_all (Run query_byte) name value (run_assigned name-run value-run) (pieces_run (query text) asked))) in
+        let fine : is_query (new name value text clear) ≡ true = escaped_from_run query_byte refl (joined_run (set_in name value (pieces (query text))) (set_all (Run query_byte) name value (pieces (query text)) (run_assigned name-run value-run) (pieces_run (query text) asked))) in
         and_from (leb (length (set_to name value text)) 512) (legal_parts (split (set_to name value text))) (le-leb (length (set_to name value text)) 512 short)
         (ap (λ (front : List ℕ). tests front (query (set_to name value text)) (fragment (set_to name value text))) (front_is name value text clear)
         ∙ ap (λ (o : Option (List ℕ)). tests (without_query text) o (fragment (set_to name value text))) (query_is name value text clear)

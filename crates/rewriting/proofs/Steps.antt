@@ -3,7 +3,7 @@ use Rattle.std.proofs.Common.{◌≡◌, ℕ, Bool, true, false, List, [], ◌�
 use Rattle.terms.specs.Drafts.{extended}
 use Rattle.terms.proofs.Drafts.{extended_twice}
 use Rattle.uri.specs.Cuts.{led}
-use Rattle.rewriting.specs.Parameters.{named, assigned, others, set_in}
+use Rattle.rewriting.specs.Parameters.{others, set_in}
 
 -- what is still to be written for the parts that are left, by whether the parameter is set
 abbrev pub set_from : (name value : List ℕ) → Bool → List (List ℕ) → List (List ℕ)
@@ -23,17 +23,3 @@ led_listed (p ∷ ps) = refl
 pub part_then : (n mark : ℕ) (d : Option (List ℕ)) (p : List ℕ) (ps : List (List ℕ)) → extended n (extended n d (mark ∷ p)) (listed 38 ps) ≡ extended n d (listed mark (p ∷ ps))
 part_then n mark d p ps =
     extended_twice n d (mark ∷ p) (listed 38 ps) ∙ ap (λ (xs : List ℕ). extended n d (mark ∷ (p ++ xs))) (led_listed ps)
-
-module _ (name p : List ℕ) (ps : List (List ℕ)) where
-  pub others-named : named name p ≡ true → others name (p ∷ ps) ≡ others name ps
-  others-named e = ap (λ (t : Bool). elim t [ true ↦ others name ps | false ↦ p ∷ others name ps ]) e
-
-  pub others_other : named name p ≡ false → others name (p ∷ ps) ≡ p ∷ others name ps
-  others_other e = ap (λ (t : Bool). elim t [ true ↦ others name ps | false ↦ p ∷ others name ps ]) e
-
-module _ (name value p : List ℕ) (ps : List (List ℕ)) where
-  pub set_named : named name p ≡ true → set_in name value (p ∷ ps) ≡ assigned name value ∷ others name ps
-  set_named e = ap (λ (t : Bool). elim t [ true ↦ assigned name value ∷ others name ps | false ↦ p ∷ set_in name value ps ]) e
-
-  pub set_other : named name p ≡ false → set_in name value (p ∷ ps) ≡ p ∷ set_in name value ps
-  set_other e = ap (λ (t : Bool). elim t [ true ↦ assigned name value ∷ others name ps | false ↦ p ∷ set_in name value ps ]) e
