@@ -1,6 +1,6 @@
 -- The entries that bytes stand for. Assumes nothing.
 use Rattle.std.proofs.Common.{◌≡◌, ℕ, zero, suc, ◌-◌, ◌*◌, ◌≤◌, List, [], ◌∷◌, length, get_or, take, drop, sym, refl, ap, ◌∙◌, arith}
-use Rattle.std.proofs.lemmas.List.{take_rest, length-drop}
+use Rattle.std.proofs.lemmas.List.{take_rest, drop_all, length-drop}
 use Rattle.table.specs.declared.kind.Kind.{Kind}
 use Rattle.table.specs.declared.entry.Entry.{Entry}
 use Rattle.table.specs.Contents.{pair, kind_of, count_of, spot, entry_of, entries_of, entries_in, contents}
@@ -11,6 +11,10 @@ length-entries (suc n) bytes = ap suc (length-entries n (drop 5 bytes))
 
 pub length-contents : (file : List ℕ) → length (contents file) ≡ count_of file
 length-contents file = length-entries (count_of file) (drop 6 file)
+
+-- behind so many entries there are no more
+pub no_more : (file : List ℕ) (i : ℕ) → count_of file ≤ i → drop i (contents file) ≡ []
+no_more file i h = drop_all i (contents file) (rw (length-contents file) h)
 
 -- the first entry, and what is left behind its bytes
 pub first_entry : (bs : List ℕ) (k : Kind) (p s : ℕ) → 5 ≤ length bs
