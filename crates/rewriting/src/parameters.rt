@@ -14,6 +14,13 @@ use terms::draft::Draft;
 use terms::text::Text;
 use uri::cutting::{cut, is_named};
 
+// A parameter that is set: its name, and the value that it is given.
+#[derive(Clone, Copy)]
+struct Parameter<'a> {
+    name: &'a [u8],
+    value: &'a [u8],
+}
+
 // What becomes of a part, by whether the parameter was set before it.
 fn change_of(part: &[u8], name: &[u8], set: bool) -> Change
     ensures { result ≡ change_of (named name.now part.now) set }
@@ -26,11 +33,11 @@ fn change_of(part: &[u8], name: &[u8], set: bool) -> Change
 }
 
 // Writes the part that gives the name the value.
-fn write_assigned<const N: usize>(draft: &mut Draft<N>, mark: u8, name: &[u8], value: &[u8])
-    ensures { drafted draft.new ≡ extended N (drafted draft.old) (mark ∷ assigned name.now value.now) }
+fn write_assigned<const N: usize>(draft: &mut Draft<N>, mark: u8, parameter: Parameter)
+    ensures { drafted draft.new ≡ extended N (drafted draft.old) (mark ∷ assigned parameter.entry.name.now parameter.entry.value.now) }
 {
-    write_part(draft, mark, name);
-    write_part(draft, b'=', value);
+    write_part(draft, mark, parameter.name);
+    write_part(draft, b'=', parameter.value);
 }
 
 // Writes the new query with its `?`.
@@ -38,21 +45,20 @@ fn write_assigned<const N: usize>(draft: &mut Draft<N>, mark: u8, name: &[u8], v
 fn write_query<const N: usize>(
     draft: &mut Draft<N>,
     query: Option<&[u8]>,
-    name: &[u8],
-    value: &[u8],
+    parameter: Parameter,
 )
-    ensures { drafted draft.new ≡ extended N (drafted draft.old) (63 ∷ joined_by 38 (set_in name.now value.now (pieces (option_map (λ x. x.now) query.entry)))) }
+    ensures { drafted draft.new ≡ extended N (drafted draft.old) (63 ∷ joined_by 38 (set_in parameter.entry.name.now parameter.entry.value.now (pieces (option_map (λ x. x.now) query.entry)))) }
 {
     let mut mark = b'?';
     let mut set = false;
     for part in QueryParts::new(query) {
-        match change_of(part, name, set) {
+        match change_of(part, parameter.name, set) {
             Change::Kept => {
                 write_part(draft, mark, part);
                 mark = b'&';
             }
             Change::Set => {
-                write_assigned(draft, mark, name, value);
+                write_assigned(draft, mark, parameter);
                 mark = b'&';
                 set = true;
             }
@@ -60,19 +66,19 @@ fn write_query<const N: usize>(
         }
     }
     if !set {
-        write_assigned(draft, mark, name, value);
+        write_assigned(draft, mark, parameter);
     }
 }
 
 // The URI with the parameter set, in at most N bytes.
-fn written<const N: usize>(uri: &[u8], name: &[u8], value: &[u8]) -> Option<Text<N>>
-    ensures { option_map content result ≡ bounded N (set_to name.now value.now uri.now) }
+fn written<const N: usize>(uri: &[u8], parameter: Parameter) -> Option<Text<N>>
+    ensures { option_map content result ≡ bounded N (set_to parameter.entry.name.now parameter.entry.value.now uri.now) }
 {
     let (whole, fragment) = cut(b'#', uri);
     let (front, query) = cut(b'?', whole);
     let mut draft = Draft::new();
     draft.push(front);
-    write_query(&mut draft, query, name, value);
+    write_query(&mut draft, query, parameter);
     write_marked(&mut draft, b'#', fragment);
     draft.finish()
 }
@@ -86,5 +92,5 @@ pub fn set_parameter<const N: usize>(uri: &[u8], name: &[u8], value: &[u8]) -> O
     ensures again { Again name.now value.now (option_map content result) }
     ensures legal { StaysLegal name.now value.now uri.now (option_map content result) }
 {
-    written(uri, name, value)
+    written(uri, Parameter { name, value })
 }

@@ -7,5 +7,5 @@ use Rattle.rewriting.proofs.parameters.write_query.Given as goal
 
 abbrev pub invariant-loop-part : goal.invariant-loop-part
 invariant-loop-part g l =
-    extended g.row.N (drafted l.draft) (listed l.mark (set_from l.name l.value l.set l.part-iterator))
-    ≡ extended g.row.N (drafted l.initial.draft) (listed 63 (set_in l.name l.value (pieces (option_map (λ x. x.now) l.query))))
+    extended g.row.N (drafted l.draft) (listed l.mark (set_from l.parameter.name.now l.parameter.value.now l.set l.part-iterator))
+    ≡ extended g.row.N (drafted l.initial.draft) (listed 63 (set_in l.parameter.name.now l.parameter.value.now (pieces (option_map (λ x. x.now) l.query))))
