@@ -9,27 +9,21 @@ use crate::kind::Kind;
 use crate::line::Line;
 use uri::cutting::place_of;
 
-fn begins_with(text: &[u8], front: &[u8]) -> bool
-    ensures { result ≡ begins front.now text.now }
-{
-    text.starts_with(front)
-}
-
 // Whether a line is neither a tag nor a comment nor empty.
 fn is_written(line: &[u8]) -> bool
     ensures { result ≡ is_written line.now }
 {
-    line.len() > 0 && line[0] != b'#'
+    !matches!(line, [] | [b'#', ..])
 }
 
 // What a line is, where a stream tag waits for its URI line or does not.
 fn kind_of(waits: bool, line: &[u8]) -> Kind
     ensures { result ≡ kind_of waits line.now }
 {
-    if begins_with(line, b"#EXT-X-CONTENT-STEERING:") {
+    if line.starts_with(b"#EXT-X-CONTENT-STEERING:") {
         return Kind::Steering;
     }
-    if begins_with(line, b"#EXT-X-STREAM-INF:") {
+    if line.starts_with(b"#EXT-X-STREAM-INF:") {
         return Kind::Stream;
     }
     if waits && is_written(line) {
@@ -49,21 +43,14 @@ fn now_waits(waits: bool, kind: Kind) -> bool
     }
 }
 
-fn ends_in_return(line: &[u8]) -> bool
-    ensures value { result ≡ ends_in_return line.now }
-    ensures some { result ≡ true → 0 < length line.now }
-{
-    line.len() > 0 && line[line.len() - 1] == b'\r'
-}
-
 // A line as it is read: a CR goes where an LF stands behind it.
 fn trim(ended: bool, line: &[u8]) -> &[u8]
     ensures { result.now ≡ trimmed ended line.now }
 {
-    if ended && ends_in_return(line) {
-        return &line[0..line.len() - 1];
+    match line {
+        [front @ .., b'\r'] if ended => front,
+        _ => line,
     }
-    line
 }
 
 pub(crate) fn rest_from(text: &[u8], at: usize) -> &[u8]

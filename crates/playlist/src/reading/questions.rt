@@ -122,10 +122,8 @@ impl<'a> Pathways for Playlist<'a> {
     }
 
     fn member(&self, number: usize, member: usize, buffer: &mut [u8]) -> Result<usize, Fault> {
-        match self.member_at(number, member) {
-            Some(uri) => copy_out(uri.as_bytes(), Layer::Set, buffer),
-            None => Err(no_such_number()),
-        }
+        let uri = self.member_at(number, member).ok_or(no_such_number())?;
+        copy_out(uri.as_bytes(), Layer::Set, buffer)
     }
 }
 
