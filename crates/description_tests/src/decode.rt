@@ -1,21 +1,9 @@
 // Bytes, written as words parted by single spaces. A word is bytes in small hex digits, or `N*HH`, which is one byte N
 // times. No bytes are `0*00`.
-use hex::FromHexError;
+use reports::hexes::bytes_of;
 use std::alloc::Global;
 use std::io;
 use std::io::ErrorKind;
-
-// The bytes of small hex digits.
-fn bytes(heap: Global, digits: &str) -> io::Result<Vec<u8>> {
-    if digits.bytes().any(|digit| digit.is_ascii_uppercase()) {
-        return Err(ErrorKind::InvalidData.into());
-    }
-    match hex::decode(heap, digits) {
-        Ok(bytes) => Ok(bytes),
-        Err(FromHexError::OutOfMemory) => Err(ErrorKind::OutOfMemory.into()),
-        Err(_) => Err(ErrorKind::InvalidData.into()),
-    }
-}
 
 // How often the bytes of a word stand there, and their digits.
 fn run(word: &str) -> io::Result<(usize, &str)> {
@@ -28,11 +16,13 @@ fn run(word: &str) -> io::Result<(usize, &str)> {
     }
 }
 
+// The other test program of descriptions has this reader too: in a crate that both use it would be public, and its contract would need a
+// definition of the notation that repeats these lines.
 pub(crate) fn decode(heap: Global, words: &str) -> io::Result<Vec<u8>> {
     let mut file = Vec::new(heap);
     for word in words.split(' ') {
         let (times, digits) = run(word)?;
-        for byte in bytes(heap, digits)?.as_slice() {
+        for byte in bytes_of(heap, digits)?.as_slice() {
             let length = file.len().saturating_add(times);
             file.resize(length, *byte)?;
         }

@@ -1,4 +1,5 @@
-// What the test programs print of a text that was read as a description.
+// What the test programs share: how they read bytes, and what they print of a text that was read as a description.
 #![tactic(auto)]
 
+pub mod hexes;
 pub mod report;

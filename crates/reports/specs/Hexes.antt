@@ -1,0 +1,14 @@
+-- The bytes that small hex digits stand for. Assumes nothing.
+use Rattle.std.specs.Prelude.{ℕ, cond, List, Some, None, Ok, Err, Option, Result}
+use Rattle.std.specs.Char.{is_ascii_uppercase}
+use Rattle.std.specs.List.{list_any}
+use Rattle.hex.specs.declared.error.FromHexError.{FromHexError}
+use Rattle.hex.specs.Hex.{decode_of}
+
+abbrev pub if_decoded : Result (List ℕ) FromHexError → Option (List ℕ)
+if_decoded (Ok bytes) = Some bytes
+if_decoded (Err e) = None
+
+-- two digits a byte, none of them in upper case
+abbrev pub bytes_of : List ℕ → Option (List ℕ)
+bytes_of digits = cond (list_any is_ascii_uppercase digits) None (if_decoded (decode_of digits))
