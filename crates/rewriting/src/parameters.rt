@@ -42,11 +42,7 @@ fn write_assigned<const N: usize>(draft: &mut Draft<N>, mark: u8, parameter: Par
 
 // Writes the new query with its `?`.
 #[tactic(auto, using(crate::proofs::Steps::part_then))]
-fn write_query<const N: usize>(
-    draft: &mut Draft<N>,
-    query: Option<&[u8]>,
-    parameter: Parameter,
-)
+fn write_query<const N: usize>(draft: &mut Draft<N>, query: Option<&[u8]>, parameter: Parameter)
     ensures { drafted draft.new ≡ extended N (drafted draft.old) (63 ∷ joined_by 38 (set_in parameter.entry.name.now parameter.entry.value.now (pieces (option_map (λ x. x.now) query.entry)))) }
 {
     let mut mark = b'?';
