@@ -1,5 +1,5 @@
 -- The iterator of streams gives the list that it is seen as. Assumes nothing.
-use Rattle.std.proofs.Common.{◌≡◌, length, ap}
+use Rattle.std.proofs.Common.{length, ap}
 use Rattle.std.proofs.lemmas.Iterator.{YieldsList}
 use Rattle.std.proofs.lemmas.Iterator.Consumers.{YieldsList-from_shown}
 use Rattle.multivariant.specs.declared.streams.Streams.{Streams}

@@ -1,9 +1,9 @@
 -- The streams of a playlist: each has a tag and a URI line. Assumes nothing.
-use Rattle.std.specs.Prelude.{ℕ, suc, Bool, false, cond, ◌||◌, List, [], ◌∷◌}
+use Rattle.std.specs.Prelude.{ℕ, suc, Bool, cond, List, [], ◌∷◌}
 use Rattle.std.specs.List.{list_any}
 use Rattle.std.specs.Str.{bytes_eq}
 use Rattle.tags.specs.declared.kind.Kind.TheVariants.{Steering, Stream, Uri, Other}
-use Rattle.tags.specs.Lines.{Row, rows_of, rows_at}
+use Rattle.tags.specs.Lines.{Row, rows_of}
 use Rattle.multivariant.specs.Tags.{is_steering, id_of, named}
 
 pub record Served : Type 0 where

@@ -1,11 +1,10 @@
 -- Looking up pathways and members in lists. Assumes nothing.
-use Rattle.std.proofs.Common.{◌≡◌, ℕ, zero, suc, ◌<◌, Bool, true, false, cond, ◌||◌, List, [], ◌∷◌, map, length, get_or, Some, None, Option, Bor, refl, ap, arith}
+use Rattle.std.proofs.Common.{◌≡◌, ℕ, zero, suc, ◌<◌, Bool, true, false, cond, ◌||◌, List, [], ◌∷◌, map, length, get_or, Option, refl, ap, arith}
 use Rattle.std.specs.List.{filter, list_any, slice_get}
 use Rattle.std.specs.Option.{option_map}
 use Rattle.std.specs.Str.{bytes_eq}
 use Rattle.multivariant.specs.declared.entry.Entry.{Entry}
 use Rattle.multivariant.specs.Views.{item}
-use Rattle.playlist.specs.Items.{Item}
 use Rattle.playlist.specs.Lookups.{count_in, step_to, uri_in}
 
 pub map_at : {X Y : Type 0} (f : X → Y) (xs : List X) (n : ℕ) (d : X) (e : Y) → n < length xs → get_or (map f xs) n e ≡ f (get_or xs n d)

@@ -1,6 +1,5 @@
 -- A test of every byte, byte by byte. Assumes nothing.
-use Rattle.std.proofs.Common.{◌≡◌, ℕ, ◌+◌, ◌<◌, ◌≤◌, Bool, true, false, ◌&&◌, List, length, get_or, drop, ap, ◌∙◌}
-use Rattle.std.proofs.lemmas.List.{at_drop_more, at_drop_all}
+use Rattle.std.proofs.Common.{◌≡◌, ℕ, ◌≤◌, Bool, List, length}
 use Rattle.std.proofs.lemmas.Bool.{le-leb}
 use Rattle.terms.specs.Classes.{every, name_byte, is_name}
 

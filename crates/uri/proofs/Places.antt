@@ -1,7 +1,7 @@
 -- The place of the first of a byte, byte by byte. Assumes nothing.
 use Rattle.std.proofs.Common.{◌≡◌, ℕ, suc, ◌+◌, ◌-◌, ◌<◌, ◌≤◌, Bool, true, false, cond, eqb, ltb, List, [], ◌∷◌, length, get_or, take, drop, Some, None, sym, ap, ◌∙◌, suc-le-suc, zero-le, arith}
-use Rattle.std.proofs.lemmas.List.{at_drop_more, at_drop_all, take_rest}
-use Rattle.std.proofs.lemmas.Bool.{cond-true, cond-false, eq-eqb, ne_eqb, lt-ltb, le-ltb, and_from, not_from_false}
+use Rattle.std.proofs.lemmas.List.{take_rest}
+use Rattle.std.proofs.lemmas.Bool.{cond-true, cond-false, eq-eqb, lt-ltb, le-ltb, and_from, not_from_false}
 use Rattle.uri.specs.Cuts.{place, before, behind_at, holds}
 use Rattle.uri.specs.Splits.{has_scheme, scheme, behind_scheme, slashes, authority, path}
 

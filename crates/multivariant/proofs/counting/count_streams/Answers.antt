@@ -2,7 +2,7 @@ use Rattle.std.proofs.Common.{rules, take, ap, ◌∙◌}
 use Rattle.std.proofs.lemmas.Iterator.{YieldsList-from_take}
 use Rattle.std.proofs.lemmas.Iterator.Consumers.{YieldsList-at, YieldsList-from_filter, count_from_yields_List}
 use borrow.Author.Tests.{tests}
-use Rattle.multivariant.specs.Streams.{is_of, streams_of, count_of}
+use Rattle.multivariant.specs.Streams.{is_of, count_of}
 use Rattle.multivariant.specs.Views.{streams_left}
 use Rattle.multivariant.proofs.Counts.{counted}
 use Rattle.multivariant.proofs.Roads.{all_streams}

@@ -1,6 +1,6 @@
-use Rattle.std.proofs.Common.{◌+◌, ℕ, List, [], Some, inl, length, take, drop, sym, ap, ◌∙◌, arith}
+use Rattle.std.proofs.Common.{ℕ, [], Some, inl, length, take, drop, sym, ap, ◌∙◌, arith}
 use Rattle.std.specs.Iterator.Adapters.{enumerate_source, enumerate_count}
-use Rattle.multivariant.specs.Streams.{Served, streams_of, pathway_of, count_of}
+use Rattle.multivariant.specs.Streams.{streams_of, pathway_of, count_of}
 use Rattle.multivariant.specs.Offences.{overrun}
 use Rattle.multivariant.specs.Views.{served, streams_left}
 use Rattle.multivariant.proofs.Counts.{few_streams, overrun_here, overrun_again}
