@@ -4,12 +4,12 @@ use Rattle.std.proofs.lemmas.Bool.{cond_both, cond-true, and_parts, and_from, or
 use Rattle.uri.specs.Cuts.{before, holds}
 use Rattle.uri.specs.Splits.{Split, split}
 use Rattle.uri.specs.Legal.{is_scheme, is_authority, is_path, is_query, if_present, present, legal_parts, legal}
-use Rattle.uri.proofs.Free.{Free, free_join}
+use Rattle.uri.proofs.Free.{Free, free_join, free_take}
 use Rattle.references.specs.Laws.{OnlyLegal, NoDots, SamePath, Undotted, Itself}
 use Rattle.references.specs.Paths.{last_slash, past, directory, without_dots, Absolute}
 use Rattle.references.specs.Resolution.{is_there, is_empty, is_rooted, or_else, transformed, recomposed, is_reference, if_legal, resolved}
 use Rattle.references.specs.Views.{Pieces, directory_for, chosen, meant}
-use Rattle.references.proofs.Named.{without_walk, walk_absolute, walk_named, without_same, without_keeps, free_take}
+use Rattle.references.proofs.Named.{without_walk, walk_absolute, walk_named, without_same, without_keeps}
 use Rattle.references.proofs.Pieces.{by_case, chosen_means, placed_absolute, split_rooted}
 use Rattle.references.proofs.Recomposed.{SchemeFree, OwnerFree, QueryFree, Tidy, split_tidy, path_back, recomposed-split}
 
@@ -69,7 +69,7 @@ or_else_free (Some x) b f g = f
 
 past_free : (b : ℕ) → eqb 47 b ≡ false → (o : Option ℕ) (xs : List ℕ) → Free b xs → Free b (past o xs)
 past_free b off None xs f = Free.none
-past_free b off (Some n) xs f = free_take b off (n + 1) f
+past_free b off (Some n) xs f = free_take (n + 1) f
 
 directory_free : (b : ℕ) → eqb 47 b ≡ false → (base : Split) (path : List ℕ) → Free b base.path → Free b (directory_for base path)
 directory_free b off base path f =

@@ -1,5 +1,5 @@
 -- A path that is walked segment by segment has no dot segment, and one that has none stays as it is. Assumes nothing.
-use Rattle.std.proofs.Common.{◌≡◌, ℕ, zero, suc, ◌+◌, Bool, true, false, eqb, List, [], ◌∷◌, ◌++◌, length, take, drop, Some, None, codes, Option, sym, refl, ap, ◌∙◌, subst, ⊎_elim, append_assoc, append-nil, arith}
+use Rattle.std.proofs.Common.{◌≡◌, ℕ, ◌+◌, Bool, true, false, eqb, List, [], ◌∷◌, ◌++◌, length, Some, None, codes, Option, sym, refl, ap, ◌∙◌, subst, ⊎_elim, append_assoc, append-nil, arith}
 use Rattle.std.proofs.ByRecursion.{All-push}
 use Rattle.std.proofs.lemmas.Slice.Eq.{bytes_eq-Decides}
 use Rattle.std.proofs.lemmas.List.{take_at}
@@ -7,7 +7,7 @@ use Rattle.std.proofs.lemmas.Bool.{cond-false, eqb-true, cases_Bool}
 use Rattle.std.specs.List.{AllByRecursion}
 use Rattle.std.specs.Str.{bytes_eq}
 use Rattle.uri.specs.Cuts.{before, behind, onto, parts, further, led, joined_by}
-use Rattle.uri.proofs.Free.{Free, free_join, before_of_free, behind_of_free}
+use Rattle.uri.proofs.Free.{Free, free_join, before_of_free, behind_of_free, free_take}
 use Rattle.uri.proofs.Pieces.{parts-marked, parts_are}
 use Rattle.references.specs.declared.segment.Segment.{Segment}
 use Rattle.references.specs.declared.segment.Segment.TheVariants.{Here, Above, Plain}
@@ -128,16 +128,6 @@ without_same (x ∷ xs) a n =
 
 -- a byte other than `/` that a path does not hold
 module _ (b : ℕ) (off : eqb 47 b ≡ false) where
-  pub free_take : (n : ℕ) {xs : List ℕ} → Free b xs → Free b (take n xs)
-  free_take zero f = Free.none
-  free_take (suc n) Free.none = Free.none
-  free_take (suc n) (Free.more e f) = Free.more e (free_take n f)
-
-  pub free_drop : (n : ℕ) {xs : List ℕ} → Free b xs → Free b (drop n xs)
-  free_drop zero f = f
-  free_drop (suc n) Free.none = Free.none
-  free_drop (suc n) (Free.more e f) = free_drop n f
-
   parts_keep : {text : List ℕ} → Free b text → AllByRecursion (Free b) (parts 47 text)
   parts_keep Free.none = (Free.none, tt)
   parts_keep (Free.more {x} {xs} e f) = onto_free b x (eqb x 47) (λ _. e) (parts 47 xs) (parts_keep f)

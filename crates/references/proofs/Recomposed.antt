@@ -4,10 +4,9 @@ use Rattle.std.proofs.lemmas.List.{take_all}
 use Rattle.std.proofs.lemmas.Bool.{cond-true, and_from, and_parts, not-true, not_from_false, eqb-true, lt-ltb, le-ltb, ltb-true, ltb-false, false≢true}
 use Rattle.uri.specs.Cuts.{place, before, holds, marked}
 use Rattle.uri.specs.Splits.{Split, split, without_fragment, without_query, query, fragment, has_scheme, scheme, behind_scheme, slashes, authority, path}
-use Rattle.uri.proofs.Free.{Free, place_free, before_free, free_join, place-marked, before-marked, from_marked, holds-marked, rest_marked, from_place, text_is}
+use Rattle.uri.proofs.Free.{Free, place_free, before_free, free_join, place-marked, before-marked, from_marked, holds-marked, rest_marked, from_place, text_is, free_take, free_drop}
 use Rattle.references.specs.Paths.{Absolute}
 use Rattle.references.specs.Resolution.{is_there, scheme_text, authority_text, recomposed}
-use Rattle.references.proofs.Named.{free_take, free_drop}
 use Rattle.references.proofs.Pieces.{Rooted, split_rooted}
 
 -- a scheme and what stands behind its colon
@@ -83,25 +82,25 @@ module _ (text : List ℕ) (asks : Free 63 text) (tails : Free 35 text) where
         omega (arith, length-take (place 58 text) text, ltb-true 0 (place 58 text) some, ltb-true (place 58 text) (length text) colon),
         before_free 58 text,
         holds_free 47 (before 58 text) (not-true (holds 47 (before 58 text)) none),
-        free_take 63 refl (place 58 text) asks,
-        free_take 35 refl (place 58 text) tails,
+        free_take (place 58 text) asks,
+        free_take (place 58 text) tails,
       )
   scheme_tidy false e = tt
 
   rest_free : (b : ℕ) → eqb 47 b ≡ false → Free b text → (t : Bool) → Free b (cond t (drop (place 58 text + 1) text) text)
-  rest_free b off f true = free_drop b off (place 58 text + 1) f
+  rest_free b off f true = free_drop (place 58 text + 1) f
   rest_free b off f false = f
 
   owner_tidy : (t : Bool) → OwnerFree (cond t (Some (before 47 (drop 2 text))) None)
-  owner_tidy true = (before_free 47 (drop 2 text), free_take 63 refl (place 47 (drop 2 text)) (free_drop 63 refl 2 asks), free_take 35 refl (place 47 (drop 2 text)) (free_drop 35 refl 2 tails))
+  owner_tidy true = (before_free 47 (drop 2 text), free_take (place 47 (drop 2 text)) (free_drop 2 asks), free_take (place 47 (drop 2 text)) (free_drop 2 tails))
   owner_tidy false = tt
 
   path_free : (b : ℕ) → eqb 47 b ≡ false → Free b text → (t : Bool) → Free b (cond t (drop (place 47 (drop 2 text)) (drop 2 text)) text)
-  path_free b off f true = free_drop b off (place 47 (drop 2 text)) (free_drop b off 2 f)
+  path_free b off f true = free_drop (place 47 (drop 2 text)) (free_drop 2 f)
   path_free b off f false = f
 
 query_tidy : (t : Bool) (n : ℕ) (text : List ℕ) → Free 35 text → QueryFree (cond t (Some (drop n text)) None)
-query_tidy true n text f = free_drop 35 refl n f
+query_tidy true n text f = free_drop n f
 query_tidy false n text f = tt
 
 module _ (text : List ℕ) where
@@ -112,7 +111,7 @@ module _ (text : List ℕ) where
   front_asks = before_free 63 (without_fragment text)
 
   front_tails : Free 35 (without_query text)
-  front_tails = free_take 35 refl (place 63 (without_fragment text)) whole_tails
+  front_tails = free_take (place 63 (without_fragment text)) whole_tails
 
   rest_asks : Free 63 (behind_scheme (without_query text))
   rest_asks = rest_free (without_query text) front_asks front_tails 63 refl front_asks (has_scheme (without_query text))

@@ -1,11 +1,11 @@
 -- The query of a text in which a parameter is set. Assumes nothing.
-use Rattle.std.proofs.Common.{◌≡◌, ℕ, zero, suc, ◌+◌, ◌<◌, Bool, true, false, eqb, List, [], ◌∷◌, ◌++◌, length, take, drop, Some, None, Option, refl, ap, ◌∙◌, subst, arith}
+use Rattle.std.proofs.Common.{◌≡◌, ℕ, ◌+◌, ◌<◌, Bool, true, false, eqb, List, [], ◌∷◌, ◌++◌, length, drop, Some, None, Option, refl, ap, ◌∙◌, subst, arith}
 use Rattle.std.proofs.lemmas.List.{length-append, take_all}
 use Rattle.std.proofs.lemmas.Bool.{cond_both, ltb-false}
 use Rattle.std.specs.List.{AllByRecursion}
 use Rattle.uri.specs.Cuts.{place, before, behind, holds, onto, parts, led, joined_by}
 use Rattle.uri.specs.Splits.{without_fragment, without_query, query, fragment}
-use Rattle.uri.proofs.Free.{Free, before_free, free_join, before-marked, behind-marked}
+use Rattle.uri.proofs.Free.{Free, before_free, free_join, before-marked, behind-marked, free_take, free_drop}
 use Rattle.uri.proofs.Pieces.{parts-marked}
 use Rattle.rewriting.specs.Parameters.{pieces, named, assigned, others, set_in, set_to}
 
@@ -25,16 +25,6 @@ module _ (P : List ℕ → Type 0) (name value : List ℕ) where
 -- bytes that a text does not hold
 pub free_from : (b : ℕ) (text : List ℕ) → holds b text ≡ false → Free b text
 free_from b text e = subst (Free b) (take_all (place b text) text (ltb-false (place b text) (length text) e)) (before_free b text)
-
-free_take : {b : ℕ} {xs : List ℕ} (n : ℕ) → Free b xs → Free b (take n xs)
-free_take zero f = Free.none
-free_take (suc n) Free.none = Free.none
-free_take (suc n) (Free.more e f) = Free.more e (free_take n f)
-
-free_drop : {b : ℕ} {xs : List ℕ} (n : ℕ) → Free b xs → Free b (drop n xs)
-free_drop zero f = f
-free_drop (suc n) Free.none = Free.none
-free_drop (suc n) (Free.more e f) = free_drop n f
 
 -- the parts hold neither the byte at which they are cut nor one that the text does not hold
 onto_free : (c x : ℕ) (t : Bool) (ps : List (List ℕ)) → (t ≡ false → eqb x c ≡ false) → AllByRecursion (Free c) ps → AllByRecursion (Free c) (onto x t ps)

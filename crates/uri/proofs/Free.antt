@@ -1,5 +1,5 @@
 -- Texts in which a byte does not stand, and a text cut at the first of it. Assumes nothing.
-use Rattle.std.proofs.Common.{◌≡◌, ℕ, suc, ◌+◌, ◌<◌, Bool, true, false, cond, eqb, List, [], ◌∷◌, ◌++◌, length, get_or, take, drop, Some, None, Option, sym, refl, ap, ◌∙◌, ⊎_elim, arith}
+use Rattle.std.proofs.Common.{◌≡◌, ℕ, suc, ◌+◌, ◌<◌, Bool, true, false, cond, eqb, List, [], ◌∷◌, ◌++◌, length, get_or, take, drop, Some, None, Option, sym, refl, ap, ◌∙◌, ⊎_elim, arith, zero}
 use Rattle.std.proofs.lemmas.List.{take_all, take_at, take-append-drop, drop_all, drop_at, drop-drop, drop_more, length-append}
 use Rattle.std.proofs.lemmas.Bool.{cond-true, cond-false, eq-eqb, eqb-true, le-ltb, lt-ltb, ltb-true, ltb-false, cases_Bool}
 use Rattle.uri.specs.Cuts.{place, before, behind, holds, marked}
@@ -85,3 +85,14 @@ from_is b text = ⊎_elim
 
 pub text_is : (b : ℕ) (text : List ℕ) → text ≡ before b text ++ marked b (behind b text)
 text_is b text = sym (take-append-drop (place b text) text) ∙ ap (λ (xs : List ℕ). before b text ++ xs) (from_is b text)
+
+-- a front and a back of a text
+pub free_take : {b : ℕ} {xs : List ℕ} (n : ℕ) → Free b xs → Free b (take n xs)
+free_take zero f = Free.none
+free_take (suc n) Free.none = Free.none
+free_take (suc n) (Free.more e f) = Free.more e (free_take n f)
+
+pub free_drop : {b : ℕ} {xs : List ℕ} (n : ℕ) → Free b xs → Free b (drop n xs)
+free_drop zero f = f
+free_drop (suc n) Free.none = Free.none
+free_drop (suc n) (Free.more e f) = free_drop n f
