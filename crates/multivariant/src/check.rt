@@ -69,6 +69,7 @@ fn check_lines<F: Fn(Line) -> Option<usize>>(
     Ok(())
 }
 
+// The own URI and the text are two arguments, as in the public check: a struct of both would be made there only to be taken apart here.
 fn check_outer(own: &[u8], text: &[u8]) -> Result<(), Fault>
     ensures { done result ≡ judged (outer own.now text.now) }
 {

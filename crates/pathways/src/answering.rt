@@ -59,8 +59,6 @@ pub fn no_such_number() -> Fault
 pub fn hand_out(text: Option<&[u8]>, buffer: &mut [u8]) -> Result<usize, Fault>
     ensures { record { result = outcome result; buffer = buffer.new } ≡ handed_out (option_map (λ x. x.now) text.entry) buffer.old }
 {
-    match text {
-        Some(bytes) => copy_out(bytes, Layer::Set, buffer),
-        None => Err(no_such_number()),
-    }
+    let text = text.ok_or(no_such_number())?;
+    copy_out(text, Layer::Set, buffer)
 }

@@ -15,6 +15,20 @@ pub enum Unreadable {
     NoMemory,
 }
 
+impl From<FromHexError> for Unreadable {
+    ghost use Rattle.std.specs.Prelude.{◌≡◌};
+    ghost use Rattle.reports.specs.Hexes.{reason_of};
+
+    ghost from_gives = { λ e r. r ≡ reason_of e };
+
+    fn from(error: FromHexError) -> Unreadable {
+        match error {
+            FromHexError::OutOfMemory => Unreadable::NoMemory,
+            _ => Unreadable::Damaged,
+        }
+    }
+}
+
 impl From<Unreadable> for io::Error {
     fn from(reason: Unreadable) -> io::Error {
         match reason {
@@ -36,9 +50,5 @@ pub fn bytes_of(heap: Global, digits: &str) -> Result<Vec<u8>, Unreadable>
     {
         return Err(Unreadable::Damaged);
     }
-    match hex::decode(heap, digits) {
-        Ok(bytes) => Ok(bytes),
-        Err(FromHexError::OutOfMemory) => Err(Unreadable::NoMemory),
-        Err(_) => Err(Unreadable::Damaged),
-    }
+    Ok(hex::decode(heap, digits)?)
 }

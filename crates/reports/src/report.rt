@@ -54,6 +54,7 @@ fn write_description<D: Description, W: fmt::Write>(
     let uri = text(description.steering(&mut buffer), &buffer);
     write!(f, "{dialect} {uri}")?;
     let mut all = 0usize;
+    // Questions are asked by number: a description lends no list of its pathways or members.
     for number in 0..description.count() {
         let mut buffer = [0; URI_BYTES];
         let id = text(description.id(number, &mut buffer), &buffer);

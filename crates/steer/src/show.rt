@@ -32,6 +32,7 @@ fn show_pathway<P: Pathways>(rt: &impl Print, set: &P, number: usize) -> Result<
     let id = text(&buffer, length)?;
     let members = set.members(number)?;
     println!(rt; "pathway {number} {id} {members}")?;
+    // Questions are asked by number: a set lends no list of its pathways or members.
     for member in 0..members {
         show_member(rt, set, number, member)?;
     }

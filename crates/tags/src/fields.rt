@@ -27,6 +27,7 @@ fn field_length(list: &[u8]) -> usize
     ensures within { result ≤ length list.now }
 {
     let mut quoted = false;
+    // `position` was tried: its closure changes `quoted`, and the library's lemmas on chains take closures that change nothing.
     for (i, byte) in list.iter().enumerate() {
         if is_parting(quoted, *byte) {
             return i;
