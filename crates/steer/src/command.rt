@@ -66,8 +66,8 @@ pub(crate) fn parse(mut words: Args) -> Result<Command, Misuse> {
         }
         _ => return Err(Misuse::UnknownCommand(name)),
     };
-    match words.next() {
-        Some(word) => Err(Misuse::Excess(word)),
-        None => Ok(command),
+    if let Some(word) = words.next() {
+        return Err(Misuse::Excess(word));
     }
+    Ok(command)
 }

@@ -77,7 +77,8 @@ fn case(rt: &HostRuntime, line: &[u8]) -> io::Result<()> {
     }
 }
 
-// Each test program has this loop: in a crate that they share it would be public, and no clause can say what it prints.
+// Each test program has this loop, and cuts its lines itself: in a crate that they share these would be public, and no clause can say what
+// is printed.
 fn run(rt: &HostRuntime) -> io::Result<()> {
     let input = BufReader::new(rt.alloc(), rt.stdin())?;
     let mut cases = 0u64;
