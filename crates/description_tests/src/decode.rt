@@ -10,10 +10,8 @@ fn run(word: &str) -> io::Result<(usize, &str)> {
     let Some((times, digits)) = word.split_once('*') else {
         return Ok((1, word));
     };
-    match times.parse() {
-        Ok(times) => Ok((times, digits)),
-        Err(_) => Err(ErrorKind::InvalidData.into()),
-    }
+    let times = times.parse().map_err(|_| ErrorKind::InvalidData)?;
+    Ok((times, digits))
 }
 
 // The other test program of descriptions has this reader too: in a crate that both use it would be public, and its contract would need a

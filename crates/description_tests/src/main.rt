@@ -30,9 +30,7 @@ use table::reading::ServiceTable;
 
 // The name of a case, its kind, and the words behind them.
 fn parts(line: &[u8]) -> Option<(&str, &str, &str)> {
-    let Ok(text) = std::str::from_utf8(line) else {
-        return None;
-    };
+    let text = std::str::from_utf8(line).ok()?;
     let (name, rest) = text.trim_end().split_once(' ')?;
     let (kind, words) = rest.split_once(' ')?;
     Some((name, kind, words))
@@ -49,9 +47,7 @@ fn table_case(rt: &HostRuntime, name: &str, words: &str) -> io::Result<()> {
 }
 
 fn playlist_case(rt: &HostRuntime, name: &str, words: &str) -> io::Result<()> {
-    let Some((own, words)) = words.split_once(' ') else {
-        return Err(ErrorKind::InvalidData.into());
-    };
+    let (own, words) = words.split_once(' ').ok_or(ErrorKind::InvalidData)?;
     let own = decode(rt.alloc(), own)?;
     let text = decode(rt.alloc(), words)?;
     let report = Report {

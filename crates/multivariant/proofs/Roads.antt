@@ -6,4 +6,4 @@ use Rattle.multivariant.specs.declared.streams.Streams.{Streams}
 use Rattle.multivariant.specs.Views.{served, streams_left, StreamStep}
 
 pub all_streams : (s : Streams) → YieldsList StreamStep served s (streams_left s)
-all_streams s = YieldsList-from_shown StreamStep served streams_left (λ s t e. ap length e) (λ s x t e. e) s
+all_streams s = YieldsList-from_shown StreamStep served streams_left (λ s t e. ap length e.0) (λ s x t e. e) s

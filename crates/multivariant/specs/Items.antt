@@ -3,7 +3,7 @@ use Rattle.std.specs.Prelude.{ℕ, List, [], ◌∷◌, map, Some, None, Option}
 use Rattle.std.specs.Option.{option_map}
 use Rattle.tags.specs.Lines.{Row, rows_of}
 use Rattle.tags.specs.Attributes.{Found, unquoted}
-use Rattle.multivariant.specs.Streams.{Served, streams_of, pathway_of, steering_in}
+use Rattle.multivariant.specs.Streams.{Served, streams_of, streams_at, pathway_of, steering_in}
 
 -- a stream: the ID of its pathway, and its URI line
 pub record Item : Type 0 where
@@ -15,6 +15,10 @@ item_of s = record { id = pathway_of s; uri = s.uri.text }
 
 abbrev pub items_of : List ℕ → List Item
 items_of text = map item_of (streams_of text)
+
+-- the streams from the line that begins at `at`
+abbrev pub items_at : (at : ℕ) → List ℕ → List Item
+items_at at text = map item_of (streams_at at text)
 
 -- the playlist's steering tag
 abbrev pub steering_of : List ℕ → Row

@@ -1,9 +1,9 @@
 -- The streams of a playlist: each has a tag and a URI line. Assumes nothing.
-use Rattle.std.specs.Prelude.{ℕ, suc, Bool, cond, List, [], ◌∷◌}
+use Rattle.std.specs.Prelude.{ℕ, suc, Bool, false, cond, List, [], ◌∷◌}
 use Rattle.std.specs.List.{list_any}
 use Rattle.std.specs.Str.{bytes_eq}
 use Rattle.tags.specs.declared.kind.Kind.TheVariants.{Steering, Stream, Uri, Other}
-use Rattle.tags.specs.Lines.{Row, rows_of}
+use Rattle.tags.specs.Lines.{Row, rows_of, rows_at}
 use Rattle.multivariant.specs.Tags.{is_steering, id_of, named}
 
 pub record Served : Type 0 where
@@ -26,6 +26,10 @@ streams_in tag (r ∷ rs) = elim r.kind [
 
 abbrev pub streams_of : List ℕ → List Served
 streams_of text = streams_in no_tag (rows_of text)
+
+-- the streams from the line that begins at `at`
+abbrev pub streams_at : (at : ℕ) → List ℕ → List Served
+streams_at at text = streams_in no_tag (rows_at at false text)
 
 -- the pathway that a stream belongs to
 abbrev pub pathway_of : Served → List ℕ

@@ -1,13 +1,14 @@
 -- The streams that the code hands out, as texts. Assumes nothing.
-use Rattle.std.specs.Prelude.{◌≡◌, ℕ, List, [], ◌∷◌, Some, None, Option, MatchOption}
+use Rattle.std.specs.Prelude.{◌≡◌, ℕ, List, [], ◌∷◌, map, Some, None, Option, MatchOption}
 use Rattle.tags.specs.declared.line.Line.{Line}
 use Rattle.tags.specs.Lines.{Row, rows_at}
 use Rattle.tags.specs.Views.{row, lines_left}
 use Rattle.multivariant.specs.declared.stream.Stream.{Stream}
 use Rattle.multivariant.specs.declared.streams.Streams.{Streams}
 use Rattle.multivariant.specs.declared.entry.Entry.{Entry}
+use Rattle.multivariant.specs.declared.entries.Entries.{Entries}
 use Rattle.multivariant.specs.Streams.{Served, no_tag, streams_in}
-use Rattle.multivariant.specs.Items.{Item}
+use Rattle.multivariant.specs.Items.{Item, item_of}
 use Rattle.multivariant.specs.Rules.{Rule}
 use Rattle.multivariant.specs.Offences.{offence}
 
@@ -25,7 +26,7 @@ streams_left s = streams_in no_tag (lines_left s.lines)
 
 -- what a stream that comes next is, and what is left behind it
 abbrev pub StreamStep : Streams → Option Stream → Streams → Type 0
-StreamStep s r t = MatchOption r (streams_left s ≡ []) (λ x. streams_left s ≡ served x ∷ streams_left t)
+StreamStep s r t = MatchOption r ((streams_left s ≡ []) × (streams_left t ≡ [])) (λ x. streams_left s ≡ served x ∷ streams_left t)
 
 abbrev pub item : Entry → Item
 item e = record { id = e.id.now; uri = e.uri.now }
@@ -33,3 +34,7 @@ item e = record { id = e.id.now; uri = e.uri.now }
 -- what `tells` answers of each line is the line's offence against a rule
 abbrev pub Tells : (tells : Line → Option ℕ → Type 0) (own text : List ℕ) → Rule → Type 0
 Tells tells own text rule = (l : Line) (o : Option ℕ) → tells l o → o ≡ offence own text rule (row l) (rows_at l.next l.waits text)
+
+-- the streams that are still to come, by what they say
+abbrev pub entries_left : Entries → List Item
+entries_left s = map item_of (streams_left s.streams)

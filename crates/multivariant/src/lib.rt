@@ -3,11 +3,12 @@
 
 pub mod check;
 mod counting;
+pub mod entries;
 pub mod entry;
 mod kinds;
 pub mod named;
 mod offences;
 pub mod steering;
 pub mod stream;
-pub mod streams;
+mod streams;
 mod tag;

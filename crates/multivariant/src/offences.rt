@@ -14,14 +14,14 @@ use pathways::ids::is_legal_id;
 use references::resolution::resolve;
 use tags::kind::Kind;
 use tags::line::Line;
-use tags::lines::lines_behind;
+use tags::lines::lines_from;
 use tags::value::Value;
 
 // Whether a URI line comes behind a line and before the next stream tag.
 pub(crate) fn is_served(text: &[u8], line: Line) -> bool
     ensures { result ≡ is_served (rows_at line.entry.next line.entry.waits text.now) }
 {
-    for next in lines_behind(text, line) {
+    for next in lines_from(text, line.next, line.waits) {
         match next.kind {
             Kind::Stream => return false,
             Kind::Uri => return true,

@@ -1,21 +1,30 @@
 // The streams of a playlist, one by one.
 ghost use Rattle.std.specs.Prelude.{◌≡◌};
-ghost use Rattle.multivariant.specs.Streams.{streams_of, pathway_of, is_of, has_stream};
+ghost use Rattle.multivariant.specs.Streams.{streams_at, streams_of, pathway_of, is_of, has_stream};
 ghost use Rattle.multivariant.specs.Views.{served, streams_left};
 
 use crate::stream::Stream;
 use crate::tag::{id_of, name_of};
 use tags::kind::Kind;
-use tags::lines::{Lines, lines_of};
+use tags::lines::{Lines, lines_from, lines_of};
 
 // The streams whose tags stand in the lines that are still to come.
 #[derive(Clone, Copy)]
-pub struct Streams<'a> {
+pub(crate) struct Streams<'a> {
     lines: Lines<'a>,
 }
 
+// The streams whose tags stand in the line that begins at `at` or behind it.
+pub(crate) fn streams_from(text: &[u8], at: usize) -> Streams<'_>
+    ensures { streams_left result ≡ streams_at at text.now }
+{
+    Streams {
+        lines: lines_from(text, at, false),
+    }
+}
+
 // All streams of a playlist.
-pub fn streams_of(text: &[u8]) -> Streams<'_>
+pub(crate) fn streams_of(text: &[u8]) -> Streams<'_>
     ensures { streams_left result ≡ streams_of text.now }
 {
     Streams {

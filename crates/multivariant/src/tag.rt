@@ -19,10 +19,9 @@ pub(crate) fn list_of(line: Line<'_>) -> &[u8]
     line.text.get(name_length(line.kind)..).unwrap_or(&[])
 }
 
-// The value of SERVER-URI in a tag.
+// The value of SERVER-URI in a tag. Like `id_of` a name for one call, since what stands above speaks of servers and IDs.
 pub(crate) fn server_of(line: Line<'_>) -> Option<Value<'_>>
     ensures value { option_map found result ≡ server_of (row line.entry) }
-    ensures lies { IfSome result (λ v. Lies (list_of (row line.entry)) v.place v.text.now) }
     ensures within { IfSome result (λ v. v.place + length v.text.now ≤ length line.entry.text.now + 1) }
 {
     value_of(list_of(line), b"SERVER-URI")
@@ -31,7 +30,6 @@ pub(crate) fn server_of(line: Line<'_>) -> Option<Value<'_>>
 // The value of PATHWAY-ID in a tag.
 pub(crate) fn id_of(line: Line<'_>) -> Option<Value<'_>>
     ensures value { option_map found result ≡ id_of (row line.entry) }
-    ensures lies { IfSome result (λ v. Lies (list_of (row line.entry)) v.place v.text.now) }
     ensures within { IfSome result (λ v. v.place + length v.text.now ≤ length line.entry.text.now + 1) }
 {
     value_of(list_of(line), b"PATHWAY-ID")
@@ -55,8 +53,5 @@ pub(crate) fn unquote(value: &[u8]) -> &[u8]
 pub(crate) fn name_of(id: Option<Value<'_>>) -> &[u8]
     ensures { result.now ≡ named (option_map found id.entry) }
 {
-    match id {
-        Some(value) => unquote(value.text),
-        None => b".",
-    }
+    id.map_or(b".".as_slice(), |value| unquote(value.text))
 }

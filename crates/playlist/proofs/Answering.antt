@@ -43,13 +43,6 @@ module _ (own : List ℕ) (items : List Item) (order : List (List ℕ)) where
   pub numbered_by : (n : ℕ) → questions.numbered (pathways_of own items order) n ≡ pathway_by own items (nth_in order n)
   numbered_by n = numbered_is n (ltb n (length order)) refl
 
-id_of_lem : (own : List ℕ) (items : List Item) (o : Option (List ℕ)) → questions.id_of (pathway_by own items o) ≡ o
-id_of_lem own items None = refl
-id_of_lem own items (Some id) = refl
-
-pub id_by : (own : List ℕ) (items : List Item) (order : List (List ℕ)) (n : ℕ) → nth_in order n ≡ questions.id_of (questions.numbered (pathways_of own items order) n)
-id_by own items order n = sym (ap questions.id_of (numbered_by own items order n) ∙ id_of_lem own items (nth_in order n))
-
 -- the number of members
 count_step : (own id : List ℕ) (x : Item) (xs : List Item) (b : Bool) → length (members_of own id xs) ≡ count_in id xs
     → length (cond b (target_of own x.uri ∷ members_of own id xs) (members_of own id xs)) ≡ cond b (suc (count_in id xs)) (count_in id xs)

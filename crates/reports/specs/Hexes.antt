@@ -2,6 +2,8 @@
 use Rattle.std.specs.Prelude.{ℕ, cond, List, Some, None, Ok, Err, Option, Result}
 use Rattle.std.specs.Char.{is_ascii_uppercase}
 use Rattle.std.specs.List.{list_any}
+use Rattle.std.specs.declared.io.ErrorKind.{ErrorKind}
+use Rattle.std.specs.declared.io.ErrorKind.TheVariants as kinds
 use Rattle.hex.specs.declared.error.FromHexError.{FromHexError}
 use Rattle.hex.specs.declared.error.FromHexError.TheVariants.{InvalidHexCharacter, OddLength, InvalidStringLength, OutOfMemory}
 use Rattle.hex.specs.Hex.{decode_of}
@@ -22,3 +24,8 @@ reason_of OutOfMemory = NoMemory
 reason_of OddLength = Damaged
 reason_of InvalidStringLength = Damaged
 reason_of (InvalidHexCharacter c i) = Damaged
+
+-- as what kind of error a program hands it on
+abbrev pub kind_of : Unreadable → ErrorKind
+kind_of Damaged = kinds.InvalidData
+kind_of NoMemory = kinds.OutOfMemory

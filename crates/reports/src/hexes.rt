@@ -30,6 +30,12 @@ impl From<FromHexError> for Unreadable {
 }
 
 impl From<Unreadable> for io::Error {
+    ghost use Rattle.std.specs.Prelude.{◌≡◌};
+    ghost use Rattle.std.specs.IoError.{error_kind};
+    ghost use Rattle.reports.specs.Hexes.{kind_of};
+
+    ghost from_gives = { λ r e. error_kind e ≡ kind_of r };
+
     fn from(reason: Unreadable) -> io::Error {
         match reason {
             Unreadable::Damaged => ErrorKind::InvalidData.into(),

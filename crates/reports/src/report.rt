@@ -78,6 +78,7 @@ fn write_members<D: Description, W: fmt::Write>(
     listed: bool,
 ) -> Result<u32, fmt::Error> {
     let mut sum = 0;
+    // By number, as above.
     for number in 0..description.count() {
         for member in 0..members(description, number) {
             let mut buffer = [0; URI_BYTES];

@@ -12,7 +12,8 @@ use terms::text::Text;
 use uri::cutting::cut;
 use uri::splitting::split;
 
-// Writes the scheme, if there is one, with its colon.
+// Writes the scheme, if there is one, with its colon. (`references` writes such parts to a text that is known to have room, and says there
+// why the two stay apart.)
 fn write_scheme<const N: usize>(draft: &mut Draft<N>, scheme: Option<&[u8]>)
     ensures { drafted draft.new ≡ extended N (drafted draft.old) (schemed (option_map (λ x. x.now) scheme.entry)) }
 {

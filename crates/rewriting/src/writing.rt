@@ -14,7 +14,7 @@ pub(crate) fn write_part<const N: usize>(draft: &mut Draft<N>, mark: u8, part: &
     draft.push(part);
 }
 
-// Writes a part behind its mark, if it is there.
+// Writes a part behind its mark, if it is there. As of `write_scheme`, `references` has its own of this.
 pub(crate) fn write_marked<const N: usize>(draft: &mut Draft<N>, mark: u8, part: Option<&[u8]>)
     ensures { drafted draft.new ≡ extended N (drafted draft.old) (marked mark (option_map (λ x. x.now) part.entry)) }
 {

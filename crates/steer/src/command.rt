@@ -54,9 +54,7 @@ pub(crate) fn words(rt: &HostRuntime) -> Result<Args, Misuse> {
 
 pub(crate) fn parse(mut words: Args) -> Result<Command, Misuse> {
     let _program = words.next();
-    let Some(name) = words.next() else {
-        return Err(Misuse::NoCommand);
-    };
+    let name = words.next().ok_or(Misuse::NoCommand)?;
     let command = match name.as_str() {
         "help" | "--help" | "-h" => Command::Help,
         "table" => Command::Table(words.next().ok_or(Misuse::NoFile)?),

@@ -1,11 +1,12 @@
 // Reading a file of any length, up to a limit.
 use crate::failure::Failure;
+use pathways::limits::TEXT_BYTES;
 use std::fs::File;
 use std::io;
 use std::io::Read;
 
 // One byte more than a table or a playlist may have, so that the check sees that a file is too long.
-const READ_BYTES: u64 = 65_536;
+const READ_BYTES: u64 = TEXT_BYTES as u64 + 1;
 
 fn read_front(rt: &HostRuntime, path: &str) -> io::Result<Vec<u8>> {
     let mut bytes = Vec::new(rt.alloc());

@@ -46,6 +46,7 @@ pub(crate) fn show<D: Description>(rt: &impl Print, description: &D) -> Result<(
     let length = description.steering(&mut buffer)?;
     let uri = text(&buffer, length)?;
     println!(rt; "{dialect} {uri}")?;
+    // By number, as above.
     for number in 0..description.count() {
         show_pathway(rt, description, number)?;
     }

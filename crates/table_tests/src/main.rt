@@ -25,16 +25,12 @@ use table::reading::ServiceTable;
 
 // The name of a case and the words behind it.
 fn parts(line: &[u8]) -> Option<(&str, &str)> {
-    match std::str::from_utf8(line) {
-        Ok(text) => text.trim_end().split_once(' '),
-        Err(_) => None,
-    }
+    let text = std::str::from_utf8(line).ok()?;
+    text.trim_end().split_once(' ')
 }
 
 fn case(rt: &HostRuntime, line: &[u8]) -> io::Result<()> {
-    let Some((name, words)) = parts(line) else {
-        return Err(ErrorKind::InvalidData.into());
-    };
+    let (name, words) = parts(line).ok_or(ErrorKind::InvalidData)?;
     let file = decode(rt.alloc(), words)?;
     let report = Report {
         name,

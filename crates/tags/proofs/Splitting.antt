@@ -1,25 +1,9 @@
 -- The fields of an attribute list, one by one. Assumes nothing.
-use Rattle.std.proofs.Common.{◌≡◌, ℕ, suc, ◌+◌, ◌-◌, ◌<◌, ◌≤◌, Bool, true, false, cond, not, eqb, ltb, leb, List, [], ◌∷◌, length, get_or, take, drop, Some, None, Option, sym, refl, ap, ◌∙◌, ⊎_elim, suc-le-suc, zero-le, arith, length-take}
-use Rattle.std.proofs.lemmas.List.{at_drop_more, at_drop_all, drop-drop, drop_more, drop_all, length-drop}
-use Rattle.std.proofs.lemmas.Bool.{cond-true, cond-false, le-leb, lt-leb, ltb-true, ltb-false, eqb-true, eq-eqb, and_parts, cases_Bool}
+use Rattle.std.proofs.Common.{◌≡◌, ℕ, suc, ◌+◌, ◌-◌, ◌<◌, ◌≤◌, Bool, true, false, cond, not, eqb, ltb, leb, List, [], ◌∷◌, length, take, drop, Some, None, Option, sym, refl, ap, ◌∙◌, ⊎_elim, suc-le-suc, zero-le, arith, length-take}
+use Rattle.std.proofs.lemmas.List.{drop-drop, drop_more, drop_all, length-drop}
+use Rattle.std.proofs.lemmas.Bool.{cond-true, cond-false, le-leb, lt-leb, ltb-true, ltb-false, eqb-true, and_parts, cases_Bool}
 use Rattle.uri.specs.Cuts.{place, before, behind, holds, onto}
-use Rattle.tags.specs.Attributes.{now_quoted, parting, fields, field_length, Field, placed, fields_at, is_closed, is_plain, is_value, Found, or_nothing, found_in}
-
-module _ (list : List ℕ) (quoted : Bool) (i : ℕ) where
-  pub length-here : i < length list → parting quoted (get_or list i 0) ≡ true → field_length quoted (drop i list) ≡ 0
-  length-here h e =
-      at_drop_more (field_length quoted) list i 0 h
-      ∙ cond-true (parting quoted (get_or list i 0)) 0 (suc (field_length (now_quoted quoted (get_or list i 0)) (drop (i + 1) list))) e
-
-  pub length-later : (q : Bool) → i < length list → parting quoted (get_or list i 0) ≡ false → q ≡ now_quoted quoted (get_or list i 0)
-      → field_length quoted (drop i list) ≡ suc (field_length q (drop (i + 1) list))
-  length-later q h e f =
-      at_drop_more (field_length quoted) list i 0 h
-      ∙ cond-false (parting quoted (get_or list i 0)) 0 (suc (field_length (now_quoted quoted (get_or list i 0)) (drop (i + 1) list))) e
-      ∙ ap (λ (b : Bool). suc (field_length b (drop (i + 1) list))) (sym f)
-
-  pub length-end : length list ≤ i → field_length quoted (drop i list) ≡ 0
-  length-end h = at_drop_all (field_length quoted) list i h
+use Rattle.tags.specs.Attributes.{now_quoted, parting, fields, field_length, Field, placed, fields_at, Found, or_nothing, found_in}
 
 le_cond : (t : Bool) (n m : ℕ) → n ≤ m → cond t 0 (suc n) ≤ suc m
 le_cond true n m h = zero-le
@@ -105,11 +89,6 @@ module _ (list : List ℕ) (at : ℕ) (within : at ≤ length list) where
         (omega arith, omega (arith, same, length-within false rest, length-drop at list)),
         ap (λ (m : ℕ). at + m + 1) (ap length front ∙ long ∙ sym same),
       )
-
--- a value that begins with a quote
-pub quoted-value : (value : List ℕ) → 1 ≤ length value → get_or value 0 0 ≡ 34 → is_closed (drop 1 value) ≡ is_value value
-quoted-value [] h e = absurd (omega arith)
-quoted-value (b ∷ bs) h e = sym (cond-true (eqb b 34) (is_closed bs) (is_plain (b ∷ bs)) (eq-eqb b 34 e))
 
 pub name_within : (field : List ℕ) → length (before 61 field) ≤ length field
 name_within field = omega (arith, length-take (place 61 field) field)

@@ -1,11 +1,11 @@
 -- The lines, fields and values that the code hands out, as texts. Assumes nothing.
-use Rattle.std.specs.Prelude.{◌≡◌, ℕ, ◌+◌, ◌≤◌, List, [], ◌∷◌, length, Option, MatchOption}
+use Rattle.std.specs.Prelude.{◌≡◌, ℕ, ◌+◌, ◌≤◌, List, [], ◌∷◌, length, Some, Option, MatchOption}
 use Rattle.tags.specs.declared.line.Line.{Line}
 use Rattle.tags.specs.declared.fields.Fields.{Fields}
 use Rattle.tags.specs.declared.lines.Lines.{Lines}
 use Rattle.tags.specs.declared.value.Value.{Value}
 use Rattle.tags.specs.declared.field.Field as code
-use Rattle.tags.specs.Lines.{Row, Shown, rows_at}
+use Rattle.tags.specs.Lines.{Row, Shown, rows_at, line_at}
 use Rattle.tags.specs.Attributes.{Field, Found, fields_at}
 use Rattle.tags.specs.Places.{Lies}
 
@@ -27,7 +27,7 @@ fields_left s = fields_at s.at s.list.now
 
 -- what a field that comes next is, and what is left behind it
 abbrev pub FieldStep : Fields → Option code.Field → Fields → Type 0
-FieldStep s r t = MatchOption r (fields_left s ≡ [])
+FieldStep s r t = MatchOption r ((fields_left s ≡ []) × (fields_left t ≡ []))
     (λ f. (fields_left s ≡ field f ∷ fields_left t)
     × (fields_left t ≡ fields_at f.next t.list.now)
     × (t.list.now ≡ s.list.now)
@@ -45,8 +45,9 @@ lines_left s = rows_at s.at s.waits (whole s)
 
 -- what a line that comes next is, and what is left behind it
 abbrev pub LineStep : Lines → Option Line → Lines → Type 0
-LineStep s r t = MatchOption r (lines_left s ≡ [])
+LineStep s r t = (whole t ≡ whole s) × MatchOption r ((lines_left s ≡ []) × (lines_left t ≡ []))
     (λ l. (lines_left s ≡ row l ∷ lines_left t)
-    × (lines_left t ≡ rows_at l.next l.waits (whole t))
-    × (whole t ≡ whole s)
-    × (l.place + length l.text.now ≤ length (whole t)))
+    × (line_at s.at s.waits (whole s) ≡ Some (shown l))
+    × (t.at ≡ l.next)
+    × (t.waits ≡ l.waits)
+    × (l.place + length l.text.now ≤ length (whole s)))

@@ -49,7 +49,7 @@ fn is_value(value: &[u8]) -> bool
     if let [b'"', rest @ ..] = value {
         return is_closed(rest);
     }
-    value.len() > 0 && is_made_of(Charset::Plain, value)
+    !value.is_empty() && is_made_of(Charset::Plain, value)
 }
 
 // Whether a field is a name, `=` and a value.
@@ -58,7 +58,7 @@ fn is_attribute(field: &[u8]) -> bool
 {
     match cut(b'=', field) {
         (name, Some(value)) => {
-            name.len() > 0 && is_made_of(Charset::Name, name) && is_value(value)
+            !name.is_empty() && is_made_of(Charset::Name, name) && is_value(value)
         }
         (_, None) => false,
     }

@@ -94,28 +94,20 @@ pub struct Lines<'a> {
     waits: bool,
 }
 
+// The lines from the one that begins at `at`, where a stream tag waits for its URI line or does not.
+pub fn lines_from(text: &[u8], at: usize, waits: bool) -> Lines<'_>
+    ensures left { lines_left result ≡ rows_at at waits text.now }
+    ensures text { whole result ≡ text.now }
+{
+    Lines { text, at, waits }
+}
+
 // All lines of a playlist.
 pub fn lines_of(text: &[u8]) -> Lines<'_>
     ensures left { lines_left result ≡ rows_of text.now }
     ensures text { whole result ≡ text.now }
 {
-    Lines {
-        text,
-        at: 0,
-        waits: false,
-    }
-}
-
-// The lines behind a line of a playlist.
-pub fn lines_behind<'a>(text: &'a [u8], line: Line) -> Lines<'a>
-    ensures left { lines_left result ≡ rows_at line.entry.next line.entry.waits text.now }
-    ensures text { whole result ≡ text.now }
-{
-    Lines {
-        text,
-        at: line.next,
-        waits: line.waits,
-    }
+    lines_from(text, 0, false)
 }
 
 impl<'a> Iterator for Lines<'a> {

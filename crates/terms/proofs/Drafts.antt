@@ -1,13 +1,9 @@
 -- Parts written one behind the other, and the bytes of one part. Assumes nothing.
-use Rattle.std.proofs.Common.{◌≡◌, ℕ, ◌<◌, ◌≤◌, leb, List, [], ◌++◌, length, take, Some, None, Option, sym, refl, ap, ◌∙◌, ⊎_elim, append_assoc, arith}
-use Rattle.std.proofs.lemmas.List.{append-nil, length-append, length-take}
-use Rattle.std.proofs.lemmas.Bool.{cond_both, cond-true, cond-false, le-leb, lt-leb, leb-true, leb-false, cases_Bool}
+use Rattle.std.proofs.Common.{◌≡◌, ℕ, ◌<◌, leb, List, ◌++◌, length, Some, None, Option, sym, refl, ap, ◌∙◌, ⊎_elim, append_assoc, arith}
+use Rattle.std.proofs.lemmas.List.{length-append}
+use Rattle.std.proofs.lemmas.Bool.{cond-true, cond-false, lt-leb, leb-false, cases_Bool}
 use Rattle.terms.specs.Texts.{bounded}
-use Rattle.terms.specs.declared.draft.Draft.{Draft}
-use Rattle.terms.specs.Drafts.{drafted, extended}
-
-pub bounded_fits : (n : ℕ) (text : List ℕ) → length text ≤ n → bounded n text ≡ Some text
-bounded_fits n text h = cond-true (leb (length text) n) (Some text) None (le-leb (length text) n h)
+use Rattle.terms.specs.Drafts.{extended}
 
 pub bounded_over : (n : ℕ) (text : List ℕ) → n < length text → bounded n text ≡ None
 bounded_over n text h = cond-false (leb (length text) n) (Some text) None (lt-leb (length text) n h)
@@ -25,10 +21,3 @@ extended-bounded n text part = ⊎_elim
 pub extended_twice : (n : ℕ) (d : Option (List ℕ)) (xs ys : List ℕ) → extended n (extended n d xs) ys ≡ extended n d (xs ++ ys)
 extended_twice n None xs ys = refl
 extended_twice n (Some text) xs ys = extended-bounded n (text ++ xs) ys ∙ ap (bounded n) (append_assoc text xs ys)
-
--- nothing more is written
-pub extended_none : {N : ℕ} (d : Draft N) → extended N (drafted d) [] ≡ drafted d
-extended_none {N} d =
-    let text : List ℕ = take d.len d.bytes in
-    cond_both (leb d.len N) (Some text) None (λ o. extended N o [] ≡ o)
-    (λ e. ap (bounded N) (append-nil text) ∙ bounded_fits N text (omega (arith, leb-true d.len N e, length-take d.len d.bytes))) (λ _. refl)

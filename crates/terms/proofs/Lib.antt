@@ -1,5 +1,4 @@
 pub mod Entries
 pub mod Bitsets
 pub mod Runs
-pub mod Slices
 pub mod Drafts

@@ -25,9 +25,7 @@ use terms::text::Text;
 
 // The URI with a parameter set, whose name and value are `words`.
 fn set(heap: Global, uri: &[u8], words: &str) -> io::Result<Option<Text<512>>> {
-    let Some((name, value)) = words.split_once(' ') else {
-        return Err(ErrorKind::InvalidData.into());
-    };
+    let (name, value) = words.split_once(' ').ok_or(ErrorKind::InvalidData)?;
     let name = decode(heap, name)?;
     let value = decode(heap, value)?;
     Ok(set_parameter::<512>(uri, name.as_slice(), value.as_slice()))
@@ -35,9 +33,7 @@ fn set(heap: Global, uri: &[u8], words: &str) -> io::Result<Option<Text<512>>> {
 
 // The answer to a case, whose arguments are `words`.
 fn answer(heap: Global, kind: &str, words: &str) -> io::Result<Option<Text<512>>> {
-    let Some((first, rest)) = words.split_once(' ') else {
-        return Err(ErrorKind::InvalidData.into());
-    };
+    let (first, rest) = words.split_once(' ').ok_or(ErrorKind::InvalidData)?;
     let uri = decode(heap, first)?;
     let uri = uri.as_slice();
     match kind {
@@ -56,18 +52,14 @@ fn answer(heap: Global, kind: &str, words: &str) -> io::Result<Option<Text<512>>
 
 // The name of a case, its kind, and the words behind them.
 fn parts(line: &[u8]) -> Option<(&str, &str, &str)> {
-    let Ok(text) = std::str::from_utf8(line) else {
-        return None;
-    };
+    let text = std::str::from_utf8(line).ok()?;
     let (name, rest) = text.trim_end().split_once(' ')?;
     let (kind, words) = rest.split_once(' ')?;
     Some((name, kind, words))
 }
 
 fn case(rt: &HostRuntime, line: &[u8]) -> io::Result<()> {
-    let Some((name, kind, words)) = parts(line) else {
-        return Err(ErrorKind::InvalidData.into());
-    };
+    let (name, kind, words) = parts(line).ok_or(ErrorKind::InvalidData)?;
     let Some(text) = answer(rt.alloc(), kind, words)? else {
         return println!(rt; "{name} none");
     };

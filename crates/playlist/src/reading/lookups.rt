@@ -1,10 +1,10 @@
 // Looking up a pathway and its members in the index.
 ghost use Rattle.std.specs.Prelude.{◌≡◌, map};
 ghost use Rattle.std.specs.Option.{option_map};
-ghost use Rattle.std.specs.Str.{bytes_eq};
 ghost use Rattle.multivariant.specs.Views.{item};
 ghost use Rattle.playlist.specs.Lookups.{nth_in, count_in, uri_in};
 
+use super::ordering::same_id;
 use multivariant::entry::Entry;
 
 // The ID of the pathway of a number.
@@ -14,18 +14,11 @@ pub(crate) fn nth_id<'a>(order: &[&'a [u8]], number: usize) -> Option<&'a [u8]>
     order.get(number).copied()
 }
 
-// Whether a stream belongs to the pathway.
-fn is_of(entry: &Entry, id: &[u8]) -> bool
-    ensures { result ≡ bytes_eq entry.now.id.now id.now }
-{
-    entry.id == id
-}
-
 // How many streams the pathway has.
 pub(crate) fn count_streams(index: &[Entry], id: &[u8]) -> usize
     ensures { result ≡ count_in id.now (map item index.now) }
 {
-    index.iter().filter(|entry| is_of(entry, id)).count()
+    index.iter().filter(|entry| same_id(entry.id, id)).count()
 }
 
 // The URI line of the pathway's stream of a number.
@@ -34,7 +27,7 @@ pub(crate) fn nth_uri<'a>(index: &[Entry<'a>], id: &[u8], number: usize) -> Opti
 {
     index
         .iter()
-        .filter(|entry| is_of(entry, id))
+        .filter(|entry| same_id(entry.id, id))
         .nth(number)
         .map(|entry| entry.uri)
 }

@@ -9,7 +9,7 @@ use multivariant::entry::Entry;
 use std::alloc::{AllocError, Global};
 
 // `==` under a name: the closures that ask it are proved by what it promises.
-fn same_id(left: &[u8], right: &[u8]) -> bool
+pub(crate) fn same_id(left: &[u8], right: &[u8]) -> bool
     ensures { result ≡ bytes_eq left.now right.now }
 {
     left == right

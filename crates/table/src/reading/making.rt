@@ -34,6 +34,7 @@ fn sound_bodies(file: &[u8]) -> Bodies<'_>
     ensures is { result.contents.file.now ≡ opened file.now }
     ensures sound { is_ok (checked result.contents.file.now) ≡ true }
 {
+    // `unwrap_or_else` was tried: the check covers no closure whose result has a lifetime that it does not capture.
     match check_all(file) {
         Ok(bodies) => bodies,
         Err(_) => example_bodies(),
