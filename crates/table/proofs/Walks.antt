@@ -9,7 +9,7 @@ use Rattle.std.specs.Iterator.{Yields, YieldsFirstBy, FindsItem}
 use Rattle.std.proofs.lemmas.Option.{slice_get-get_or, slice_get_past}
 use Rattle.std.proofs.lemmas.Bool.{cond-true, cond-false, ltb-true, ltb-false}
 use Rattle.pathways.specs.Meaning.{Pathway}
-use Rattle.pathways.specs.Questions.{id_of, member_of}
+use Rattle.pathways.specs.Questions.{member_of}
 use Rattle.table.specs.declared.reading.walking.Group.{Group}
 use Rattle.table.specs.Walks.{pathway_of}
 use Rattle.table.specs.declared.entry.Entry.{Entry}
@@ -118,14 +118,7 @@ get_is xs n d = go (ltb n (length xs)) refl
     go true t = slice_get-get_or xs n d (ltb-true n (length xs) t)
     go false t = slice_get_past xs n (ltb-false n (length xs) t)
 
--- what is told of a pathway that was found
-pub id_told : (found : Option Group) (told : Option (Bor (List ℕ))) → told ≡ option_map (λ (g : Group). g.id) found → option_map (λ (x : Bor (List ℕ)). x.now) told ≡ id_of (option_map pathway_of found)
-id_told found told t = ap (option_map (λ (x : Bor (List ℕ)). x.now)) t ∙ known found
-  where
-    known : (o : Option Group) → option_map (λ (x : Bor (List ℕ)). x.now) (option_map (λ (g : Group). g.id) o) ≡ id_of (option_map pathway_of o)
-    known None = refl
-    known (Some g) = refl
-
+-- what is told of a member of a pathway that was found
 pub member_told : (m : ℕ) (told : Option (Bor (List ℕ))) (found : Option Group) → MatchOption found (told ≡ None) (λ g. option_map (λ (x : Bor (List ℕ)). x.now) told ≡ slice_get (pathway_of g).members m)
     → option_map (λ (x : Bor (List ℕ)). x.now) told ≡ member_of (option_map pathway_of found) m
 member_told m told None t = ap (option_map (λ (x : Bor (List ℕ)). x.now)) t
