@@ -29,8 +29,8 @@ use terms::text::Text;
 use uri::splitting::without_fragment;
 
 impl<'a> Playlist<'a> {
-    // The IDs of the pathways in their order, with what follows from the check: that is handed on by this and the next two, as far as their
-    // callers need it, since it follows from `sound` by a lemma.
+    // The IDs of the pathways in their order, with what follows from the check by a lemma on `sound`: `count_ids` and `numbered` hand that on
+    // too, since their callers need it.
     fn ids(&self) -> &[&[u8]]
         ensures order { map (λ x. x.now) result.now ≡ order_of self.now.text.now }
         ensures lawful { Lawful (playlist_pathways self.now) }
