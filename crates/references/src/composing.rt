@@ -28,7 +28,7 @@ impl Model for Composition {
 }
 
 impl Composition {
-    fn new() -> Self
+    pub(crate) fn new() -> Self
         ensures { result ≡ [] }
     {
         Composition {
@@ -107,17 +107,16 @@ impl Composition {
     }
 }
 
-// The text of the target.
-pub(crate) fn compose(target: Target) -> Composition
+// Writes the text of the target. The caller lends the room: a composition that is handed out would be moved, and its bytes with it.
+pub(crate) fn compose(target: Target, uri: &mut Composition)
+    requires empty { uri.old ≡ [] }
     requires room { extent (pieces target) ≤ 4096 }
     requires rooted { (pieces target).kept ≡ false → Absolute ((pieces target).directory ++ (pieces target).parts.path) }
-    ensures { result ≡ recomposed (meant (pieces target.entry)) }
+    ensures { uri.new ≡ recomposed (meant (pieces target.entry)) }
 {
-    let mut uri = Composition::new();
     uri.push_scheme(target.scheme);
     uri.push_marked(b"//", target.authority);
     uri.push_path(target.path);
     uri.push_marked(b"?", target.query);
     uri.push_marked(b"#", target.fragment);
-    uri
 }

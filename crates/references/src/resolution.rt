@@ -8,7 +8,7 @@ ghost use Rattle.references.specs.Loops.{Looped};
 ghost use Rattle.references.specs.Resolution.{is_reference, if_legal, resolved};
 
 use crate::choosing::target_of;
-use crate::composing::compose;
+use crate::composing::{Composition, compose};
 use terms::text::Text;
 use uri::cutting::{cut, place_of};
 use uri::legality::{is_legal, is_path};
@@ -55,7 +55,9 @@ fn stands_for<'a>(base: &'a [u8], reference: &'a [u8]) -> Option<Text<512>>
     if target.authority.is_none() {
         return None;
     }
-    legal_text(compose(target).as_bytes())
+    let mut uri = Composition::new();
+    compose(target, &mut uri);
+    legal_text(uri.as_bytes())
 }
 
 // The URI that `reference` stands for, read against `base`; none where one of them is illegal, or what it stands for is.

@@ -34,6 +34,6 @@ impl<const N: usize> Draft<N> {
     pub fn finish(&self) -> Option<Text<N>>
         ensures { option_map content result ≡ drafted self.now }
     {
-        Text::front(self.bytes, self.len)
+        Text::front(&self.bytes, self.len)
     }
 }
