@@ -1,8 +1,9 @@
 -- The streams that the code hands out, as texts. Assumes nothing.
-use Rattle.std.specs.Prelude.{◌≡◌, ℕ, List, [], ◌∷◌, map, Some, None, Option, MatchOption}
+use Rattle.std.specs.Prelude.{◌≡◌, ℕ, ◌+◌, ◌<◌, ◌≤◌, false, List, [], ◌∷◌, length, map, Some, None, Option, IfSome, MatchOption}
 use Rattle.tags.specs.declared.line.Line.{Line}
 use Rattle.tags.specs.Lines.{Row, rows_at}
-use Rattle.tags.specs.Views.{row, lines_left}
+use Rattle.tags.specs.Places.{Lies}
+use Rattle.tags.specs.Views.{row, lines_left, whole}
 use Rattle.multivariant.specs.declared.stream.Stream.{Stream}
 use Rattle.multivariant.specs.declared.streams.Streams.{Streams}
 use Rattle.multivariant.specs.declared.entry.Entry.{Entry}
@@ -24,9 +25,20 @@ served s = record { tag = tag_row s.tag; uri = row s.uri }
 abbrev pub streams_left : Streams → List Served
 streams_left s = streams_in no_tag (lines_left s.lines)
 
--- what a stream that comes next is, and what is left behind it
+-- the line lies in the playlist, which reads as the line does from its place on
+abbrev pub StandsIn : (text : List ℕ) → Line → Type 0
+StandsIn text l = Lies text l.place l.text.now × (l.place + length l.text.now ≤ length text)
+
+-- what a stream that comes next is, where it stands, and what is left behind it
 abbrev pub StreamStep : Streams → Option Stream → Streams → Type 0
-StreamStep s r t = MatchOption r ((streams_left s ≡ []) × (streams_left t ≡ [])) (λ x. streams_left s ≡ served x ∷ streams_left t)
+StreamStep s r t = (whole t.lines ≡ whole s.lines) × MatchOption r ((streams_left s ≡ []) × (streams_left t ≡ []))
+    (λ x. (streams_left s ≡ served x ∷ streams_left t)
+    × (t.lines.at ≡ x.uri.next)
+    × (t.lines.waits ≡ false)
+    × (s.lines.at < x.uri.next)
+    × (x.uri.next ≤ length (whole s.lines) + 1)
+    × IfSome x.tag (StandsIn (whole s.lines))
+    × StandsIn (whole s.lines) x.uri)
 
 abbrev pub item : Entry → Item
 item e = record { id = e.id.now; uri = e.uri.now }

@@ -1,7 +1,8 @@
 // The streams of a playlist, one by one.
-ghost use Rattle.std.specs.Prelude.{◌≡◌};
+ghost use Rattle.std.specs.Prelude.{◌≡◌, ◌+◌, ◌<◌, ◌≤◌, [], ◌∷◌, length, IfSome, MatchOption};
+ghost use Rattle.tags.specs.Views.{whole, place_of};
 ghost use Rattle.multivariant.specs.Streams.{streams_at, streams_of, pathway_of, is_of, has_stream};
-ghost use Rattle.multivariant.specs.Views.{served, streams_left};
+ghost use Rattle.multivariant.specs.Views.{served, streams_left, StandsIn};
 
 use crate::stream::Stream;
 use crate::tag::{id_of, name_of};
@@ -16,7 +17,9 @@ pub(crate) struct Streams<'a> {
 
 // The streams whose tags stand in the line that begins at `at` or behind it.
 pub(crate) fn streams_from(text: &[u8], at: usize) -> Streams<'_>
-    ensures { streams_left result ≡ streams_at at text.now }
+    ensures left { streams_left result ≡ streams_at at text.now }
+    ensures text { whole result.lines ≡ text.now }
+    ensures place { place_of result.lines ≡ at }
 {
     Streams {
         lines: lines_from(text, at, false),
@@ -53,6 +56,16 @@ impl<'a> Iterator for Streams<'a> {
         }
         None
     }
+}
+
+// The first stream whose tag stands in the line that begins at `at` or behind it.
+pub(crate) fn stream_at(text: &[u8], at: usize) -> Option<Stream<'_>>
+    ensures step { MatchOption result (streams_at at text.now ≡ [])
+        (λ s. streams_at at text.now ≡ served s ∷ streams_at s.uri.next text.now) }
+    ensures forth { IfSome result (λ s. (at < s.uri.next) × (s.uri.next ≤ length text.now + 1)) }
+    ensures stands { IfSome result (λ s. IfSome s.tag (StandsIn text.now) × StandsIn text.now s.uri) }
+{
+    streams_from(text, at).next()
 }
 
 // The pathway that a stream belongs to.

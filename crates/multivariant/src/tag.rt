@@ -22,6 +22,7 @@ pub(crate) fn list_of(line: Line<'_>) -> &[u8]
 // The value of SERVER-URI in a tag. Like `id_of` a name for one call, since what stands above speaks of servers and IDs.
 pub(crate) fn server_of(line: Line<'_>) -> Option<Value<'_>>
     ensures value { option_map found result ≡ server_of (row line.entry) }
+    ensures lies { IfSome result (λ v. Lies (list_of (row line.entry)) v.place v.text.now) }
     ensures within { IfSome result (λ v. v.place + length v.text.now ≤ length line.entry.text.now + 1) }
 {
     value_of(list_of(line), b"SERVER-URI")
@@ -30,6 +31,7 @@ pub(crate) fn server_of(line: Line<'_>) -> Option<Value<'_>>
 // The value of PATHWAY-ID in a tag.
 pub(crate) fn id_of(line: Line<'_>) -> Option<Value<'_>>
     ensures value { option_map found result ≡ id_of (row line.entry) }
+    ensures lies { IfSome result (λ v. Lies (list_of (row line.entry)) v.place v.text.now) }
     ensures within { IfSome result (λ v. v.place + length v.text.now ≤ length line.entry.text.now + 1) }
 {
     value_of(list_of(line), b"PATHWAY-ID")

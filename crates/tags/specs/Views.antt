@@ -1,11 +1,11 @@
 -- The lines, fields and values that the code hands out, as texts. Assumes nothing.
-use Rattle.std.specs.Prelude.{◌≡◌, ℕ, ◌+◌, ◌≤◌, List, [], ◌∷◌, length, Some, Option, MatchOption}
+use Rattle.std.specs.Prelude.{◌≡◌, ℕ, ◌+◌, ◌<◌, ◌≤◌, List, [], ◌∷◌, length, Some, Option, MatchOption}
 use Rattle.tags.specs.declared.line.Line.{Line}
 use Rattle.tags.specs.declared.fields.Fields.{Fields}
 use Rattle.tags.specs.declared.lines.Lines.{Lines}
 use Rattle.tags.specs.declared.value.Value.{Value}
 use Rattle.tags.specs.declared.field.Field as code
-use Rattle.tags.specs.Lines.{Row, Shown, rows_at, line_at}
+use Rattle.tags.specs.Lines.{Row, Shown, now_waits, rows_at, line_at}
 use Rattle.tags.specs.Attributes.{Field, Found, fields_at}
 use Rattle.tags.specs.Places.{Lies}
 
@@ -39,6 +39,10 @@ FieldStep s r t = MatchOption r ((fields_left s ≡ []) × (fields_left t ≡ []
 abbrev pub whole : Lines → List ℕ
 whole s = s.text.now
 
+-- where the line that comes next begins
+abbrev pub place_of : Lines → ℕ
+place_of s = s.at
+
 -- the lines that are still to come
 abbrev pub lines_left : Lines → List Row
 lines_left s = rows_at s.at s.waits (whole s)
@@ -50,4 +54,8 @@ LineStep s r t = (whole t ≡ whole s) × MatchOption r ((lines_left s ≡ []) �
     × (line_at s.at s.waits (whole s) ≡ Some (shown l))
     × (t.at ≡ l.next)
     × (t.waits ≡ l.waits)
-    × (l.place + length l.text.now ≤ length (whole s)))
+    × (l.place + length l.text.now ≤ length (whole s))
+    × Lies (whole s) l.place l.text.now
+    × (s.at < l.next)
+    × (l.next ≤ length (whole s) + 1)
+    × (l.waits ≡ now_waits s.waits l.kind))

@@ -3,7 +3,7 @@ ghost use Rattle.std.specs.Prelude.{◌≡◌, ◌+◌, ◌<◌, ◌≤◌, true
 ghost use Rattle.std.specs.Option.{option_map};
 ghost use Rattle.tags.specs.Lines.{begins, is_written, kind_of, now_waits, ends_in_return, trimmed, line_at, rows_at, rows_of};
 ghost use Rattle.tags.specs.Places.{Lies};
-ghost use Rattle.tags.specs.Views.{row, shown, lines_left, whole};
+ghost use Rattle.tags.specs.Views.{row, shown, lines_left, whole, place_of};
 
 use crate::kind::Kind;
 use crate::line::Line;
@@ -61,6 +61,7 @@ pub(crate) fn rest_from(text: &[u8], at: usize) -> &[u8]
 }
 
 // The line that begins at `at`, where the text is that long.
+#[inline]
 pub fn line_at(text: &[u8], at: usize, waits: bool) -> Option<Line<'_>>
     ensures value { option_map shown result ≡ line_at at waits text.now }
     ensures step { MatchOption result (rows_at at waits text.now ≡ [])
@@ -98,6 +99,7 @@ pub struct Lines<'a> {
 pub fn lines_from(text: &[u8], at: usize, waits: bool) -> Lines<'_>
     ensures left { lines_left result ≡ rows_at at waits text.now }
     ensures text { whole result ≡ text.now }
+    ensures place { place_of result ≡ at }
 {
     Lines { text, at, waits }
 }
@@ -120,6 +122,8 @@ impl<'a> Iterator for Lines<'a> {
 
     ghost remaining = { item_count lines_left };
 
+    // Inlined: the loops above go over each line a dozen times, and a call that hands a line over in memory costs more than the line does.
+    #[inline(always)]
     fn next(&mut self) -> Option<Line<'a>> {
         let line = line_at(self.text, self.at, self.waits)?;
         self.at = line.next;

@@ -51,7 +51,7 @@ fn open<'a>(heap: Global, source: Source<'a>) -> Result<Playlist<'a>, AllocError
     ensures { IfOk result (λ p. read_by p ≡ read_from source.entry) }
 {
     let text = source.text;
-    let Steering { server, id } = steering_of(text);
+    let Steering { server, id, .. } = steering_of(text);
     let index = index_of(heap, text)?;
     let order = order_of(heap, id, index.as_slice())?;
     Ok(Playlist {

@@ -31,7 +31,8 @@ pub returns-then-is_excess : goal.returns-then-is_excess
 returns-then-is_excess c =
     let all = streams_of c.args.text.now in
     let it = c.loop-before.before-iterator in
-    let (step, at, on, room) = c.in-Some.ensures.steps in
+    let (turn, at, on, room) = c.in-Some.ensures.steps in
+    let step = turn.1.0 in
     let same = c.count_streams-same.ensures ∙ ap (λ id. count_of id (take c.in-Some.before all)) c.pathway_of.ensures ∙ ap (λ (n : ℕ). count_of (pathway_of (served c.in-Some.stream)) (take n all)) at in
     ap Some c.place_of.ensures
     ∙ sym (overrun_here all (streams_left (enumerate_source it)) (streams_left (enumerate_source c.next.new.self)) (served c.in-Some.stream) (enumerate_count it) c.loop-before.pathways
@@ -42,7 +43,8 @@ loop-before-preserved c =
     let all = streams_of c.args.text.now in
     let it = c.loop-before.before-iterator in
     let left = streams_left (enumerate_source c.next.new.self) in
-    let (step, at, on, room) = c.in-Some.ensures.steps in
+    let (turn, at, on, room) = c.in-Some.ensures.steps in
+    let step = turn.1.0 in
     let same = c.count_streams-same.ensures ∙ ap (λ id. count_of id (take c.in-Some.before all)) c.pathway_of.ensures ∙ ap (λ (n : ℕ). count_of (pathway_of (served c.in-Some.stream)) (take n all)) at in
     let (value, rest, few) =
     overrun_again all (streams_left (enumerate_source it)) left (served c.in-Some.stream) (enumerate_count it) c.loop-before.pathways

@@ -10,6 +10,7 @@ use Rattle.tags.proofs.Roads.{all_lines}
 use Rattle.multivariant.specs.Tags.{is_steering}
 use Rattle.multivariant.specs.Streams.{no_tag, steering_in}
 use Rattle.multivariant.specs.Views.{tag_row}
+use Rattle.multivariant.proofs.Roads.{stands_then}
 use Rattle.multivariant.proofs.steering.steering_tag.Goals as goal
 
 abbrev or_no_tag : Option Row → Row
@@ -30,7 +31,11 @@ seen_as (Some l) = refl
 
 pub returns : goal.returns
 returns c =
-    seen_as c.find.result
-    ∙ ap or_no_tag (find_from_yields_List (λ (r : Row). is_steering r.kind) c.find.new.self _ c.find.result c.find.ensures.ran (all_lines c.lines_of.result) (λ x b q k. search (rules, tests)))
-    ∙ first_is (lines_left c.lines_of.result)
-    ∙ ap steering_in c.lines_of.ensures.left
+    record {
+      value =
+          seen_as c.find.result
+          ∙ ap or_no_tag (find_from_yields_List (λ (r : Row). is_steering r.kind) c.find.new.self _ c.find.result c.find.ensures.ran (all_lines c.lines_of.result) (λ x b q k. search (rules, tests)))
+          ∙ first_is (lines_left c.lines_of.result)
+          ∙ ap steering_in c.lines_of.ensures.left;
+      stands = stands_then c.args.text.now c.lines_of.result c.find.new.self c.find.ensures.ran.0 c.find.result c.lines_of.ensures.text c.find.ensures.ran.2;
+    }
