@@ -1,6 +1,6 @@
 // The bytes of a table, written as words parted by single spaces. A word is bytes in small hex digits, or `N*HH`, which
 // is one byte N times. A table without bytes is `0*00`.
-use reports::hexes::bytes_of;
+use reports::hexes::byte_of;
 use std::alloc::Global;
 use std::io;
 use std::io::ErrorKind;
@@ -20,9 +20,11 @@ pub(crate) fn decode(heap: Global, words: &str) -> io::Result<Vec<u8>> {
     let mut file = Vec::new(heap);
     for word in words.split(' ') {
         let (times, digits) = run(word)?;
-        for byte in bytes_of(heap, digits)?.as_slice() {
+        // Each byte is stored before the next one is read, so a word that is damaged behind its first bytes still asks for their memory.
+        for pair in digits.as_bytes().chunks(2) {
+            let byte = byte_of(pair).ok_or(ErrorKind::InvalidData)?;
             let length = file.len().saturating_add(times);
-            file.resize(length, *byte)?;
+            file.resize(length, byte)?;
         }
     }
     Ok(file)
