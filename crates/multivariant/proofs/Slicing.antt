@@ -47,9 +47,6 @@ inner_sliced text value inner r n at line lies name is =
     sliced_lies text (unquoted value) (r.place + n + at + 1) (r.place + n + at + 1 + length inner) (ap (λ (l : List ℕ). r.place + n + at + 1 + length l) is)
     (ap (λ (m : ℕ). take (length (unquoted value)) (drop m text)) spot ∙ whole)
 
-pub inner_short : (value : List ℕ) → length (unquoted value) ≤ length value
-inner_short value = omega (arith, length-take (place 34 (drop 1 value)) (drop 1 value), length-drop 1 value)
-
 -- what a span stands for, where it holds what a value has between its quotes
 pub spanned_inner : (text : List ℕ) (s : Option Span) (v : Option Found) → names_in text s ≡ foremost v → option_map (sliced text) s ≡ inner_of v
 spanned_inner text None None e = refl

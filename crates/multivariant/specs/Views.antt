@@ -40,6 +40,7 @@ StreamStep s r t = (whole t.lines ≡ whole s.lines) × MatchOption r ((streams_
     × IfSome x.tag (StandsIn (whole s.lines))
     × StandsIn (whole s.lines) x.uri)
 
+-- what an entry says of its stream
 abbrev pub item : Entry → Item
 item e = record { id = e.id.now; uri = e.uri.now }
 

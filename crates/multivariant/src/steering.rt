@@ -33,6 +33,7 @@ pub fn steering_of(text: &[u8]) -> Steering<'_>
     ensures id_span { names_in text.now result.id_span ≡ foremost (id_of (steering_of text.now)) }
 {
     let tag = steering_tag(text);
+    // Where there is no server, its span is one of no bytes: whoever asks for the place of what is not there gets that.
     let server = server_span(text, tag).unwrap_or(Span { from: 0, to: 0 });
     let id = id_span(text, tag);
     Steering {

@@ -10,6 +10,7 @@ use Rattle.hex.specs.Hex.{hex_digit_value, decode_of}
 use Rattle.reports.specs.declared.hexes.Unreadable.{Unreadable}
 use Rattle.reports.specs.declared.hexes.Unreadable.TheVariants.{Damaged, NoMemory}
 
+-- what the library that reads them gives, without its error
 abbrev pub if_decoded : Result (List ℕ) FromHexError → Option (List ℕ)
 if_decoded (Ok bytes) = Some bytes
 if_decoded (Err e) = None
@@ -18,11 +19,12 @@ if_decoded (Err e) = None
 abbrev pub digit_of : ℕ → Option ℕ
 digit_of c = cond (is_ascii_uppercase c) None (hex_digit_value c)
 
--- the byte of two digits
+-- a byte of what its two digits count, where both do
 abbrev pub of_pair : Option ℕ → Option ℕ → Option ℕ
 of_pair (Some high) (Some low) = Some (high * 16 + low)
 of_pair _ _ = None
 
+-- the byte of two digits; none where these are not two, or no such digits
 abbrev pub byte_of : List ℕ → Option ℕ
 byte_of (high ∷ low ∷ []) = of_pair (digit_of high) (digit_of low)
 byte_of _ = None

@@ -65,7 +65,7 @@ pub fn byte_of(digits: &[u8]) -> Option<u8>
     Some(digit_of(*high)? * 16 + digit_of(*low)?)
 }
 
-// The bytes that the digits stand for. Memory is asked for only once all of them are known to be digits.
+// The bytes that the digits stand for.
 pub fn bytes_of(heap: Global, digits: &str) -> Result<Vec<u8>, Unreadable>
     ensures ok { IfOk result (λ v. bytes_of digits.now ≡ Some v.items) }
     ensures err { IfErr result (λ e. (e ≡ NoMemory) ⊎ ((e ≡ Damaged) × (bytes_of digits.now ≡ None))) }
@@ -74,13 +74,6 @@ pub fn bytes_of(heap: Global, digits: &str) -> Result<Vec<u8>, Unreadable>
         .as_bytes()
         .iter()
         .any(|digit| digit.is_ascii_uppercase())
-    {
-        return Err(Unreadable::Damaged);
-    }
-    if digits
-        .as_bytes()
-        .iter()
-        .any(|digit| !digit.is_ascii_hexdigit())
     {
         return Err(Unreadable::Damaged);
     }

@@ -3,3 +3,5 @@
 
 pub mod hexes;
 pub mod report;
+#[cfg(test)]
+mod tests;
