@@ -1,4 +1,4 @@
--- The spans of an index, and the bytes that stand there. Assumes nothing.
+-- Where streams and the steering tag stand, and the bytes that stand there. Assumes nothing.
 use Rattle.std.proofs.Common.{◌≡◌, ℕ, ◌+◌, ◌-◌, ◌<◌, ◌≤◌, Bool, ◌&&◌, leb, List, [], ◌∷◌, length, take, drop, get_or, Some, None, Option, refl, ap, ◌∙◌, ⊎_elim, arith, length-take}
 use Rattle.std.proofs.lemmas.List.{length-drop}
 use Rattle.std.proofs.lemmas.Bool.{cond-true, cond-false, leb-false, and_cases, cases_Bool}
